@@ -1,0 +1,4 @@
+pub mod Test
+pub mod Fill
+pub mod Count
+pub mod Bytes

@@ -1,0 +1,22 @@
+-- Counts: of numbers that pass a test, and of places at which two lists differ.
+-- Assumes nothing.
+use mathlib.Core.Bool.{Bool, true, false, not}
+use mathlib.Core.List.{List, [], _∷_}
+use Prim.Native.Nat.{ℕ, zero, suc, _+_}
+use lib.Dec.{eqb}
+
+-- a test as a digit: 1 where it passes
+abbrev pub bit : Bool → ℕ
+bit false = 0
+bit true = 1
+
+-- how many of the n numbers from k on pass a test
+abbrev pub countFrom : (ℕ → Bool) → ℕ → ℕ → ℕ
+countFrom f k zero = 0
+countFrom f k (suc n) = bit (f k) + countFrom f (suc k) n
+
+-- in how many places two lists of one length differ (the Hamming distance)
+unfoldable pub distance : List ℕ → List ℕ → ℕ
+distance [] ys = 0
+distance (x ∷ xs) [] = 0
+distance (x ∷ xs) (y ∷ ys) = bit (not (eqb x y)) + distance xs ys
