@@ -1,0 +1,4 @@
+pub mod Field
+pub mod Powers
+pub mod Inverse
+pub mod Tables

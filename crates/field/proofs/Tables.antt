@@ -1,0 +1,76 @@
+-- Products and inverses by logarithms.
+-- Assumes nothing.
+use mathlib.Core.Path.{_≡_, refl, sym, ap, ap₂, _∙_}
+use mathlib.Core.Bool.{Bool, _&&_}
+use mathlib.Core.List.{List}
+use Prim.Native.Nat.{ℕ, zero, suc, _+_, _-_, _<_, _≤_}
+use native.Mathlib.Omega.{arith}
+use lib.Dec.{T, eqb, ltb, eqb→eq, ltb→lt}
+use lib.ListN.{getD}
+use Rattle.lists.specs.Test.{below}
+use Rattle.lists.proofs.Test.{and-left, and-right, below-at}
+use Rattle.field.specs.Field.{add, double, mulBits, mul, pow, inverse}
+use Rattle.field.specs.Tables.{LogTable}
+use Rattle.field.proofs.Powers.{pow-zero, pow-suc, pow-add, alpha, alpha-lt, alpha-order}
+use Rattle.field.proofs.Inverse.{inverse-is}
+
+module _ (t : List ℕ) (h : LogTable t) where
+  -- i is the logarithm of a, which is not 0
+  pub log-lt : (a i : ℕ) → (a ≡ 0 → ⊥) → a < 256 → i ≡ getD t a 0 → i < 255
+  log-lt a i na ha e = omega (arith, h .log-small a (omega (arith, na)) ha)
+
+  pub product-log :
+      (a b i j : ℕ) → (a ≡ 0 → ⊥) → a < 256 → (b ≡ 0 → ⊥) → b < 256 → i ≡ getD t a 0 → j ≡ getD t b 0 → getD t (256 + (i + j)) 0 ≡ mul a b
+  product-log a b i j na ha nb hb e f =
+      h .exp (i + j) (omega (arith, log-lt a i na ha e, log-lt b j nb hb f)) ∙ pow-add 2 alpha i j
+      ∙ ap₂ mul (ap (pow 2) e ∙ h .log a (omega (arith, na)) ha) (ap (pow 2) f ∙ h .log b (omega (arith, nb)) hb)
+
+  pub inverse-log : (a i : ℕ) → (a ≡ 0 → ⊥) → a < 256 → i ≡ getD t a 0 → getD t (256 + (255 - i)) 0 ≡ inverse a
+  inverse-log a i na ha e =
+      let l : i < 255 = log-lt a i na ha e in
+      h .exp (255 - i) (omega arith)
+      ∙ sym (inverse-is a (pow 2 (255 - i)) ha (alpha-lt (255 - i))
+      (ap (λ (x : ℕ). mul x (pow 2 (255 - i))) (sym (ap (pow 2) e ∙ h .log a (omega (arith, na)) ha)) ∙ sym (pow-add 2 alpha i (255 - i))
+      ∙ ap (pow 2) (omega arith) ∙ alpha-order))
+
+-- ---- the table's rule, from two tests over its entries
+
+-- entry a + 1 is the index, from entry 256 on, of the element a + 1
+unfoldable pub logRight : List ℕ → ℕ → Bool
+logRight t a = ltb (getD t (suc a) 0) 255 && eqb (getD t (256 + getD t (suc a) 0) 0) (suc a)
+
+-- each power is x times the one before it
+unfoldable pub expRight : List ℕ → ℕ → Bool
+expRight t i = eqb (getD t (256 + suc i) 0) (double (getD t (256 + i) 0))
+
+pub record Right (t : List ℕ) : Type 0 where
+  pub first : getD t 256 0 ≡ 1
+  pub logs : T (below 255 (logRight t))
+  pub exps : T (below 511 (expRight t))
+
+doubles : T (below 256 (λ x. eqb (mul 2 x) (double x)))
+unfolding add double mulBits mul
+doubles = tt
+
+double-mul : (x : ℕ) → x < 256 → mul 2 x ≡ double x
+double-mul x h = eqb→eq (mul 2 x) (double x) (below-at 256 (λ x. eqb (mul 2 x) (double x)) doubles x h)
+
+module _ (t : List ℕ) (r : Right t) where
+  exps-at : (i : ℕ) → i < 512 → getD t (256 + i) 0 ≡ pow 2 i
+  unfolding expRight
+  exps-at zero h = r .first ∙ sym (pow-zero 2)
+  exps-at (suc i) h =
+      eqb→eq (getD t (256 + suc i) 0) (double (getD t (256 + i) 0)) (below-at 511 (expRight t) (r .exps) i (omega arith))
+      ∙ ap double (exps-at i (omega arith)) ∙ sym (double-mul (pow 2 i) (alpha-lt i)) ∙ sym (pow-suc 2 alpha i)
+
+  logs-at : (a : ℕ) → 0 < a → a < 256 → (getD t a 0 < 255) × (pow 2 (getD t a 0) ≡ a)
+  unfolding logRight
+  logs-at zero p h = absurd (omega arith)
+  logs-at (suc a) p h =
+      let x : ℕ = getD t (suc a) 0 in
+      let q : T (ltb x 255 && eqb (getD t (256 + x) 0) (suc a)) = below-at 255 (logRight t) (r .logs) a (omega arith) in
+      let l : x < 255 = ltb→lt x 255 (and-left (ltb x 255) (eqb (getD t (256 + x) 0) (suc a)) q) in
+      (l, sym (exps-at x (omega arith)) ∙ eqb→eq (getD t (256 + x) 0) (suc a) (and-right (ltb x 255) (eqb (getD t (256 + x) 0) (suc a)) q))
+
+  pub right-table : LogTable t
+  right-table = record { log-small = λ a p h. logs-at a p h .0; log = λ a p h. logs-at a p h .1; exp = exps-at }

@@ -1,0 +1,104 @@
+-- `field::product` meets its contract: 0 where a factor is 0, and else the power of α at the sum of the logarithms. Assumes nothing.
+use mathlib.Core.List.{List}
+use mathlib.Core.Path.{_≡_, sym, ap, ap₂, _∙_}
+use Prim.Native.Nat.{ℕ, _+_, _<_}
+use native.Mathlib.Omega.{arith}
+use lib.ListN.{getD}
+use borrow.Author.Needs.{needs}
+use Rattle.field.specs.Field.{mul}
+use Rattle.field.specs.Tables.{LogTable}
+use Rattle.field.proofs.Field.{zero-mul, mul-zero}
+use Rattle.field.proofs.Tables.{log-lt, product-log}
+use Rattle.field.proofs.product.Statement.{statement}
+use Rattle.field.proofs.product.Tie as tie
+use Rattle.field.proofs.product.Reads as reads
+use Rattle.field.proofs.product.Lts as lts
+use Rattle.field.proofs.index.Reads as index-reads
+
+-- src/lib.rt:76:9
+returns : tie.Need-returns
+returns c = sym (ap (λ (x : ℕ). mul x (c .before .args .b)) (c .if1 .taken) ∙ zero-mul (c .before .args .b))
+
+-- src/lib.rt:79:9
+returns-2 : tie.Need-returns-2
+returns-2 c = sym (ap (mul (c .before .before .args .a)) (c .if2 .taken) ∙ mul-zero (c .before .before .args .a))
+
+-- src/lib.rt:81:21
+index-requires : tie.Need-index-requires
+index-requires c κs = search needs
+
+-- src/lib.rt:81:19
+element-copy-out-index : tie.Need-element-copy-out-index
+element-copy-out-index c = search needs
+
+-- src/lib.rt:81:9
+index-requires-2 : tie.Need-index-requires-2
+index-requires-2 c κs = search needs
+
+-- src/lib.rt:82:21
+index-requires-3 : tie.Need-index-requires-3
+index-requires-3 c κs = search needs
+
+-- src/lib.rt:82:19
+element-copy-out-index-2 : tie.Need-element-copy-out-index-2
+element-copy-out-index-2 c = search needs
+
+-- src/lib.rt:82:9
+index-requires-4 : tie.Need-index-requires-4
+index-requires-4 c κs = search needs
+
+abbrev At : Type 0
+At = lts.After-index4 (index-reads.Asked, index-reads.Learnt) reads.Pre reads.Post
+
+table : At → List ℕ
+table c = c .before .before .before .before .before .before .before .before .args .t .now
+
+log-a : (c : At) → c .before .before .before .index2 .result ≡ getD (table c) (c .before .before .before .before .before .before .before .before .args .a) 0
+unfolding table
+log-a c = c .before .before .before .index2 .ensures ∙ ap (λ (x : ℕ). getD (table c) x 0) (c .before .before .before .before .before .index .ensures)
+
+log-b : (c : At) → c .index4 .result ≡ getD (table c) (c .before .before .before .before .before .before .before .before .args .b) 0
+unfolding table
+log-b c = c .index4 .ensures ∙ ap (λ (x : ℕ). getD (table c) x 0) (c .before .before .index3 .ensures)
+
+small : (c : At) → c .before .before .before .index2 .result + c .index4 .result < 512
+unfolding table
+small c =
+    let s = c .before .before .before .before .before .before .before .before in
+    omega (arith,
+    log-lt (table c) (s .pre) (s .args .a) (c .before .before .before .index2 .result) (c .before .before .before .before .before .before .before .if1 .left) (omega arith) (log-a c),
+    log-lt (table c) (s .pre) (s .args .b) (c .index4 .result) (c .before .before .before .before .before .before .if2 .left) (omega arith) (log-b c))
+
+add-result : tie.Need-add-result
+add-result c = omega (arith, small c)
+
+add-result-2 : tie.Need-add-result-2
+add-result-2 c = omega (arith, small c)
+
+element-copy-out-result : tie.Need-element-copy-out-result
+element-copy-out-result c = omega (arith, small c)
+
+returns-3 : tie.Need-returns-3
+unfolding table
+returns-3 c =
+    let d = c .before in
+    let s = d .before .before .before .before .before .before .before .before in
+    product-log (table d) (s .pre) (s .args .a) (s .args .b) (d .before .before .before .index2 .result) (d .index4 .result)
+    (d .before .before .before .before .before .before .before .if1 .left) (omega arith) (d .before .before .before .before .before .before .if2 .left) (omega arith) (log-a d) (log-b d)
+
+pub product-spec : {M : Type 1} → statement M
+product-spec =
+    tie.close
+    (tie.spec
+    returns
+    returns-2
+    index-requires
+    element-copy-out-index
+    index-requires-2
+    index-requires-3
+    element-copy-out-index-2
+    index-requires-4
+    add-result
+    add-result-2
+    element-copy-out-result
+    returns-3)
