@@ -33,8 +33,11 @@ index-requires-2 c κs = search needs
 sub-result : tie.Need-sub-result
 sub-result c =
     let s = c .before .before .before .before in
-    omega (arith, log-lt (s .args .t .now) (s .pre) (s .args .a) (c .index2 .result) (c .before .before .before .if1 .left) (omega arith)
-    (c .index2 .ensures ∙ ap (λ (x : ℕ). getD (s .args .t .now) x 0) (c .before .before .index .ensures)))
+    omega (
+      arith,
+      log-lt (s .args .t .now) (s .pre) (s .args .a) (c .index2 .result) (c .before .before .before .if1 .left) (omega arith)
+          (c .index2 .ensures ∙ ap (λ (x : ℕ). getD (s .args .t .now) x 0) (c .before .before .index .ensures)),
+    )
 
 -- src/lib.rt:95:7
 add-result : tie.Need-add-result

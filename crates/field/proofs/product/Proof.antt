@@ -65,9 +65,11 @@ small : (c : At) → c .before .before .before .index2 .result + c .index4 .resu
 unfolding table
 small c =
     let s = c .before .before .before .before .before .before .before .before in
-    omega (arith,
-    log-lt (table c) (s .pre) (s .args .a) (c .before .before .before .index2 .result) (c .before .before .before .before .before .before .before .if1 .left) (omega arith) (log-a c),
-    log-lt (table c) (s .pre) (s .args .b) (c .index4 .result) (c .before .before .before .before .before .before .if2 .left) (omega arith) (log-b c))
+    omega (
+      arith,
+      log-lt (table c) (s .pre) (s .args .a) (c .before .before .before .index2 .result) (c .before .before .before .before .before .before .before .if1 .left) (omega arith) (log-a c),
+      log-lt (table c) (s .pre) (s .args .b) (c .index4 .result) (c .before .before .before .before .before .before .if2 .left) (omega arith) (log-b c),
+    )
 
 add-result : tie.Need-add-result
 add-result c = omega (arith, small c)

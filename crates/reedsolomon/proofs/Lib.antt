@@ -1,0 +1,5 @@
+pub mod Vandermonde
+pub mod Words
+pub mod KeyEquation
+pub mod Division
+pub mod Nearest
