@@ -32,6 +32,34 @@ count-same f g k l (suc n) h =
     (ap bit (ap f (omega arith) ∙ h 0 (omega arith) ∙ ap g (omega arith)))
     (count-same f g (suc k) (suc l) n (λ i j. ap f (omega arith) ∙ h (suc i) (suc-le-suc j) ∙ ap g (omega arith)))
 
+pub count-le : (f : ℕ → Bool) (k n : ℕ) → countFrom f k n ≤ n
+count-le f k zero = omega arith
+count-le f k (suc n) = omega (arith, bit-le (f k), count-le f (suc k) n)
+
+pub count-none : (f : ℕ → Bool) (k n : ℕ) → ((i : ℕ) → i < n → f (k + i) ≡ false) → countFrom f k n ≡ 0
+count-none f k zero h = refl
+count-none f k (suc n) h =
+    ap₂ (λ (x y : ℕ). x + y) (ap bit (ap f (omega arith) ∙ h 0 (omega arith)))
+    (count-none f (suc k) n (λ i l. ap f (omega arith) ∙ h (suc i) (suc-le-suc l)))
+
+-- one more number passes
+pub count-flip :
+    (f g : ℕ → Bool) (k n i : ℕ) → i < n → ((j : ℕ) → j < n → (j ≡ i → ⊥) → f (k + j) ≡ g (k + j)) → f (k + i) ≡ false → g (k + i) ≡ true
+    → countFrom g k n ≡ countFrom f k n + 1
+count-flip f g k zero i l h a b = absurd (omega arith)
+count-flip f g k (suc n) zero l h a b =
+    let x : f k ≡ false = ap f (omega arith) ∙ a in
+    let y : g k ≡ true = ap g (omega arith) ∙ b in
+    let e : countFrom f (suc k) n ≡ countFrom g (suc k) n =
+    count-same f g (suc k) (suc k) n (λ j m. ap f (omega arith) ∙ h (suc j) (suc-le-suc m) (λ q. omega (arith, q)) ∙ ap g (omega arith)) in
+    omega (arith, ap bit x, ap bit y)
+count-flip f g k (suc n) (suc i) l h a b =
+    let x : f k ≡ g k = ap f (omega arith) ∙ h 0 (omega arith) (λ q. omega (arith, q)) ∙ ap g (omega arith) in
+    let e : countFrom g (suc k) n ≡ countFrom f (suc k) n + 1 =
+    count-flip f g (suc k) n i (omega arith) (λ j m ne. ap f (omega arith) ∙ h (suc j) (suc-le-suc m) (λ q. ne (omega (arith, q))) ∙ ap g (omega arith))
+    (ap f (omega arith) ∙ a) (ap g (omega arith) ∙ b) in
+    omega (arith, ap bit x)
+
 -- ---- distances
 
 pub distance-self : (xs : List ℕ) → distance xs xs ≡ 0

@@ -3,3 +3,5 @@ pub mod Words
 pub mod KeyEquation
 pub mod Division
 pub mod Nearest
+pub mod Roots
+pub mod Elimination

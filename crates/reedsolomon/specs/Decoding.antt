@@ -1,12 +1,13 @@
 -- The vocabulary of the inner contracts: what each step of the decoder hands to the next. No public contract cites it, and nobody needs to believe it.
 -- A polynomial here has its lowest coefficient first.
 -- Assumes nothing.
-use mathlib.Core.Bool.{Bool, true, false}
+use mathlib.Core.Bool.{Bool, true, false, not}
 use mathlib.Core.Path.{_≡_}
 use mathlib.Core.List.{List, [], _∷_}
 use Prim.Native.Nat.{ℕ, zero, suc, _+_, _*_, _-_, _<_, _≤_}
 use lib.Dec.{eqb}
 use lib.ListN.{length, getD, set, take, drop}
+use Rattle.lists.specs.Count.{countFrom}
 use Rattle.field.specs.Field.{add, mul, pow, inverse}
 
 -- the syndromes as a function, from the list of them
@@ -23,6 +24,12 @@ unfoldable pub polyAt : List ℕ → ℕ → ℕ
 polyAt [] x = 0
 polyAt (c ∷ cs) x = add c (mul x (polyAt cs x))
 
+-- f times the polynomial c, added to the polynomial v
+unfoldable pub mix : ℕ → List ℕ → List ℕ → List ℕ
+mix f [] v = v
+mix f (a ∷ c) [] = []
+mix f (a ∷ c) (b ∷ v) = add b (mul f a) ∷ mix f c v
+
 -- c satisfies the key equations 0 .. t-1 of the syndromes S, has t + 1 coefficients, and is not 0
 pub record Locator (S : ℕ → ℕ) (t : ℕ) (c : List ℕ) : Type 0 where
   pub size : length c ≡ t + 1
@@ -30,10 +37,51 @@ pub record Locator (S : ℕ → ℕ) (t : ℕ) (c : List ℕ) : Type 0 where
   pub lead : getD c degree 0 ≡ 1
   pub zeros : (i : ℕ) → i < t → dot c S i ≡ 0
 
+-- ---- the elimination. Of 1, x, x^2, .. the first is sought that satisfies the key equations once multiples of those before it are added. One that does
+-- not is kept as the pivot of the first equation it fails.
+
+-- polynomial i of a list of polynomials with w coefficients each
+abbrev pub polyOf : ℕ → List ℕ → ℕ → List ℕ
+polyOf w m i = take w (drop (i * w) m)
+
+-- pivot i is 0, or satisfies the equations before i and fails equation i
+abbrev pub isPivot : (ℕ → ℕ) → ℕ → List ℕ → ℕ → Bool
+isPivot S w m i = not (eqb (dot (polyOf w m i) S i) 0)
+
+-- k pivots for t equations, of degree below k
+pub record Pivots (S : ℕ → ℕ) (t w k : ℕ) (m : List ℕ) : Type 0 where
+  pub size : length m ≡ t * w
+  pub zeros : (i j : ℕ) → i < t → j < i → dot (polyOf w m i) S j ≡ 0
+  pub low : (i j : ℕ) → i < t → k ≤ j → getD (polyOf w m i) j 0 ≡ 0
+  pub used : countFrom (isPivot S w m) 0 t ≡ k
+
+-- a polynomial x^k + .. that satisfies the equations before i
+pub record Candidate (S : ℕ → ℕ) (w k i : ℕ) (v : List ℕ) : Type 0 where
+  pub size : length v ≡ w
+  pub lead : getD v k 0 ≡ 1
+  pub high : (j : ℕ) → k < j → getD v j 0 ≡ 0
+  pub zeros : (j : ℕ) → j < i → dot v S j ≡ 0
+
+-- what became of the candidate at equation i, up to equation e: it satisfies the equations before e and the pivots are as they were, or it was kept as one
+pub record Cleared (S : ℕ → ℕ) (t w k e : ℕ) (m m' v' : List ℕ) (r : Bool) : Type 0 where
+  pub goes : r ≡ true → (m' ≡ m) × Candidate S w k e v'
+  pub stops : r ≡ false → Pivots S t w (k + 1) m'
+
+-- v stands in the list m' from place a on, and around it is what m has
+pub record Stored (m : List ℕ) (a : ℕ) (v m' : List ℕ) : Type 0 where
+  pub same : length m' ≡ length m
+  pub inside : (j : ℕ) → j < length v → getD m' (a + j) 0 ≡ getD v j 0
+  pub before : (j : ℕ) → j < a → getD m' j 0 ≡ getD m j 0
+  pub after : (j : ℕ) → a + length v ≤ j → getD m' j 0 ≡ getD m j 0
+
+-- ---- the search
+
 -- the n-1 .. 0 at whose powers of α a polynomial is 0
 unfoldable pub rootPlaces : List ℕ → ℕ → List ℕ
 rootPlaces c zero = []
 rootPlaces c (suc n) = elim (eqb (polyAt c (pow 2 n)) 0) [ true ↦ n ∷ rootPlaces c n | false ↦ rootPlaces c n ]
+
+-- ---- the values
 
 -- one syndrome and x times the one before it: the error with the locator x drops out of the sums
 unfoldable pub without : ℕ → (ℕ → ℕ) → ℕ → ℕ
