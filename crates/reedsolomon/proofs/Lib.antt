@@ -5,3 +5,5 @@ pub mod Division
 pub mod Nearest
 pub mod Roots
 pub mod Elimination
+pub mod Values
+pub mod Mended

@@ -1,7 +1,7 @@
 -- A polynomial that is not 0 has fewer roots than coefficients: each root is divided off.
 -- Assumes nothing.
 use mathlib.Core.Path.{_≡_, refl, sym, ap, ap₂, _∙_, subst}
-use mathlib.Core.Bool.{Bool, true, false}
+use mathlib.Core.Bool.{Bool, true, false, cond}
 use mathlib.Core.List.{List, [], _∷_}
 use mathlib.Core.Logic.{_≢_}
 use Prim.Native.Nat.{ℕ, zero, suc, _+_, _<_, _≤_}
@@ -77,20 +77,20 @@ lead-nonzero (c ∷ cs) (suc d) e z = lead-nonzero cs d e (z .1)
 
 -- ---- the roots among the powers of α
 
-roots-hit : (c : List ℕ) (n : ℕ) → polyAt c (pow 2 n) ≡ 0 → rootPlaces c (suc n) ≡ n ∷ rootPlaces c n
+pub roots-hit : (c : List ℕ) (n : ℕ) → polyAt c (pow 2 n) ≡ 0 → rootPlaces c (suc n) ≡ n ∷ rootPlaces c n
 unfolding rootPlaces
-roots-hit c n e = ap (λ (t : Bool). elim t [ true ↦ n ∷ rootPlaces c n | false ↦ rootPlaces c n ]) (eq-eqb (polyAt c (pow 2 n)) 0 e)
+roots-hit c n e = ap (λ (t : Bool). cond t (n ∷ rootPlaces c n) (rootPlaces c n)) (eq-eqb (polyAt c (pow 2 n)) 0 e)
 
-roots-miss : (c : List ℕ) (n : ℕ) → (polyAt c (pow 2 n) ≡ 0 → ⊥) → rootPlaces c (suc n) ≡ rootPlaces c n
+pub roots-miss : (c : List ℕ) (n : ℕ) → (polyAt c (pow 2 n) ≡ 0 → ⊥) → rootPlaces c (suc n) ≡ rootPlaces c n
 unfolding rootPlaces
-roots-miss c n e = ap (λ (t : Bool). elim t [ true ↦ n ∷ rootPlaces c n | false ↦ rootPlaces c n ]) (ne-eqb (polyAt c (pow 2 n)) 0 e)
+roots-miss c n e = ap (λ (t : Bool). cond t (n ∷ rootPlaces c n) (rootPlaces c n)) (ne-eqb (polyAt c (pow 2 n)) 0 e)
 
 -- one root divided off leaves the roots at the lower powers
 divide-roots : (c : List ℕ) (m n : ℕ) → Bytes c → n ≤ m → m < 255 → polyAt c (pow 2 m) ≡ 0 → rootPlaces (divide (pow 2 m) c) n ≡ rootPlaces c n
 unfolding rootPlaces
 divide-roots c m zero hc l h e = refl
 divide-roots c m (suc n) hc l h e =
-    ap₂ (λ (t : Bool) (ks : List ℕ). elim t [ true ↦ n ∷ ks | false ↦ ks ]) (same (eqb (polyAt (divide a c) x) 0) refl) (divide-roots c m n hc (omega arith) h e)
+    ap₂ (λ (t : Bool) (ks : List ℕ). cond t (n ∷ ks) ks) (same (eqb (polyAt (divide a c) x) 0) refl) (divide-roots c m n hc (omega arith) h e)
   where
     a : ℕ
     a = pow 2 m

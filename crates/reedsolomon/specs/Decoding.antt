@@ -1,7 +1,7 @@
 -- The vocabulary of the inner contracts: what each step of the decoder hands to the next. No public contract cites it, and nobody needs to believe it.
 -- A polynomial here has its lowest coefficient first.
 -- Assumes nothing.
-use mathlib.Core.Bool.{Bool, true, false, not}
+use mathlib.Core.Bool.{Bool, true, false, not, cond}
 use mathlib.Core.Path.{_≡_}
 use mathlib.Core.List.{List, [], _∷_}
 use Prim.Native.Nat.{ℕ, zero, suc, _+_, _*_, _-_, _<_, _≤_}
@@ -79,7 +79,7 @@ pub record Stored (m : List ℕ) (a : ℕ) (v m' : List ℕ) : Type 0 where
 -- the n-1 .. 0 at whose powers of α a polynomial is 0
 unfoldable pub rootPlaces : List ℕ → ℕ → List ℕ
 rootPlaces c zero = []
-rootPlaces c (suc n) = elim (eqb (polyAt c (pow 2 n)) 0) [ true ↦ n ∷ rootPlaces c n | false ↦ rootPlaces c n ]
+rootPlaces c (suc n) = cond (eqb (polyAt c (pow 2 n)) 0) (n ∷ rootPlaces c n) (rootPlaces c n)
 
 -- ---- the values
 
@@ -90,12 +90,12 @@ without x S i = add (S (suc i)) (mul x (S i))
 -- the syndromes without the first l errors of the places ks, but for the error j
 unfoldable pub withoutOthers : List ℕ → ℕ → ℕ → (ℕ → ℕ) → ℕ → ℕ
 withoutOthers ks j zero S = S
-withoutOthers ks j (suc l) S = elim (eqb l j) [ true ↦ withoutOthers ks j l S | false ↦ without (pow 2 (getD ks l 0)) (withoutOthers ks j l S) ]
+withoutOthers ks j (suc l) S = cond (eqb l j) (withoutOthers ks j l S) (without (pow 2 (getD ks l 0)) (withoutOthers ks j l S))
 
 -- the product of x + α^k over the first l places k, but for the place j
 unfoldable pub spread : List ℕ → ℕ → ℕ → ℕ → ℕ
 spread ks j zero x = 1
-spread ks j (suc l) x = elim (eqb l j) [ true ↦ spread ks j l x | false ↦ mul (spread ks j l x) (add x (pow 2 (getD ks l 0))) ]
+spread ks j (suc l) x = cond (eqb l j) (spread ks j l x) (mul (spread ks j l x) (add x (pow 2 (getD ks l 0))))
 
 -- the value of error j, by what is left of the syndromes without all the others
 unfoldable pub errorValue : (ℕ → ℕ) → List ℕ → ℕ → ℕ
