@@ -3,6 +3,71 @@ ghost use mathlib.Core.Path.{_≡_};
 ghost use Rattle.field.specs.Field.{mul, pow, inverse};
 ghost use Rattle.field.specs.Tables.{LogTable};
 
+pub fn log_table() -> [u8; 768]
+    ensures { λ r. ⌜ LogTable r ⌝ }
+{
+    TABLE
+}
+
+fn index(x: u8) -> usize
+    ensures { λ r. ⌜ r ≡ x ⌝ }
+{
+    x as usize
+}
+
+// The product of two elements.
+pub fn product(t: &[u8; 768], a: u8, b: u8) -> u8
+    requires { ⌜ LogTable (now t) ⌝ }
+    ensures { λ r. ⌜ r ≡ mul a b ⌝ }
+{
+    if a == 0 {
+        return 0;
+    }
+    if b == 0 {
+        return 0;
+    }
+    let i = index(t[index(a)]);
+    let j = index(t[index(b)]);
+    t[256 + (i + j)]
+}
+
+// α^k.
+pub fn alpha_power(t: &[u8; 768], k: u8) -> u8
+    requires { ⌜ LogTable (now t) ⌝ }
+    ensures { λ r. ⌜ r ≡ pow 2 k ⌝ }
+{
+    t[256 + index(k)]
+}
+
+// The inverse of an element, and 0 for 0.
+pub fn inverse_of(t: &[u8; 768], a: u8) -> u8
+    requires { ⌜ LogTable (now t) ⌝ }
+    ensures { λ r. ⌜ r ≡ inverse a ⌝ }
+{
+    if a == 0 {
+        return 0;
+    }
+    let i = index(t[index(a)]);
+    t[256 + (255 - i)]
+}
+
+// a to the power n, by halves of n.
+pub fn power(t: &[u8; 768], a: u8, n: u64) -> u8
+    requires { ⌜ LogTable (now t) ⌝ }
+    ensures { λ r. ⌜ r ≡ pow a n ⌝ }
+{
+    if n == 0 {
+        return 1;
+    }
+    let half = power(t, a, n / 2);
+    let squared = product(t, half, half);
+    if n % 2 == 0 {
+        squared
+    } else {
+        product(t, squared, a)
+    }
+}
+
 // Entry a is the logarithm of a to the base α (entry 0 is unused); entry 256 + i is α^i, i up to 511.
 const TABLE: [u8; 768] = [
     0,
@@ -774,60 +839,3 @@ const TABLE: [u8; 768] = [
     1,
     2,
 ];
-
-pub fn log_table() -> [u8; 768]
-    ensures { λ r. ⌜ LogTable r ⌝ }
-{
-    TABLE
-}
-
-fn index(x: u8) -> usize
-    ensures { λ r. ⌜ r ≡ x ⌝ }
-{
-    x as usize
-}
-
-// The product of two elements.
-pub fn product(t: &[u8; 768], a: u8, b: u8) -> u8
-    requires { ⌜ LogTable (now t) ⌝ }
-    ensures { λ r. ⌜ r ≡ mul a b ⌝ }
-{
-    if a == 0 {
-        return 0;
-    }
-    if b == 0 {
-        return 0;
-    }
-    let i = index(t[index(a)]);
-    let j = index(t[index(b)]);
-    t[256 + (i + j)]
-}
-
-// The inverse of an element, and 0 for 0.
-pub fn inverse_of(t: &[u8; 768], a: u8) -> u8
-    requires { ⌜ LogTable (now t) ⌝ }
-    ensures { λ r. ⌜ r ≡ inverse a ⌝ }
-{
-    if a == 0 {
-        return 0;
-    }
-    let i = index(t[index(a)]);
-    t[256 + (255 - i)]
-}
-
-// a to the power n, by halves of n.
-pub fn power(t: &[u8; 768], a: u8, n: u64) -> u8
-    requires { ⌜ LogTable (now t) ⌝ }
-    ensures { λ r. ⌜ r ≡ pow a n ⌝ }
-{
-    if n == 0 {
-        return 1;
-    }
-    let half = power(t, a, n / 2);
-    let squared = product(t, half, half);
-    if n % 2 == 0 {
-        squared
-    } else {
-        product(t, squared, a)
-    }
-}

@@ -1,7 +1,7 @@
 -- A computed test, turned into its rule at each number or entry.
 -- Assumes nothing.
-use mathlib.Core.Path.{_≡_, refl, sym, subst, _∙_}
-use mathlib.Core.Bool.{Bool, true, false, _&&_}
+use mathlib.Core.Path.{_≡_, refl, sym, ap₂, subst, _∙_}
+use mathlib.Core.Bool.{Bool, true, false, false≢true, _&&_}
 use mathlib.Core.List.{List, [], _∷_}
 use mathlib.Core.Logic.{_⊎_, inl, inr}
 use Prim.Native.Nat.{ℕ, zero, suc, _+_, _<_}
@@ -41,6 +41,17 @@ below-at (suc n) f t k h = go (eq-or-lt-of-le (le-of-suc-le-suc h)) (λ l. below
 pub below-all : (n : ℕ) (f : ℕ → Bool) → ((k : ℕ) → k < n → T (f k)) → T (below n f)
 below-all zero f h = tt
 below-all (suc n) f h = and-both (f n) (below n f) (h n (omega arith)) (below-all n f (λ k l. h k (omega arith)))
+
+pub below-same : (n : ℕ) (f g : ℕ → Bool) → ((k : ℕ) → k < n → f k ≡ g k) → below n f ≡ below n g
+below-same zero f g h = refl
+below-same (suc n) f g h = ap₂ _&&_ (h n (omega arith)) (below-same n f g (λ k l. h k (omega arith)))
+
+pub below-false : (n : ℕ) (f : ℕ → Bool) (k : ℕ) → k < n → f k ≡ false → below n f ≡ false
+below-false n f k l e = go (below n f) refl
+  where
+    go : (b : Bool) → below n f ≡ b → b ≡ false
+    go true q = absurd (false≢true (sym e ∙ truth (f k) (below-at n f (truth-of (below n f) q) k l)))
+    go false q = refl
 
 from : (f : ℕ → ℕ → Bool) (xs : List ℕ) (i : ℕ) → T (everyFrom f i xs) → (k : ℕ) → k < length xs → T (f (i + k) (getD xs k 0))
 from f [] i t k h = absurd (not-suc-le-zero h)

@@ -1,7 +1,7 @@
 -- The elimination finds a locator: among 1, x, .. x^t one becomes a polynomial that satisfies the key equations.
 -- Assumes nothing.
 use mathlib.Core.Path.{_≡_, refl, sym, ap, ap₂, _∙_, subst}
-use mathlib.Core.Bool.{Bool, true, false, not}
+use mathlib.Core.Bool.{Bool, true, false, true≢false, false≢true, not}
 use mathlib.Core.List.{List, [], _∷_}
 use mathlib.Core.Logic.{_≢_, _⊎_, inl, inr, dite}
 use Prim.Native.Nat.{ℕ, zero, suc, _+_, _*_, _-_, _<_, _≤_}
@@ -10,14 +10,15 @@ use native.Mathlib.Decide.{ℕ-discrete}
 use native.Mathlib.Omega.{arith}
 use borrow.Author.Tests.{eq-eqb, ne-eqb}
 use lib.Dec.{eqb}
-use lib.ListN.{length, getD, take, drop, replicate, length-take, length-drop, getD-replicate, length-replicate}
+use lib.ListN.{length, getD, take, drop, replicate, length-take, length-drop, length-replicate, List·getD-eq-default}
 use lib.Seq.{ext-getD, getD-take, getD-drop}
-use Rattle.lists.specs.Count.{countFrom}
+use Rattle.lists.specs.Count.{bit, countFrom}
+use Rattle.lists.proofs.Fill.{length-tabulate, getD-tabulate}
 use Rattle.lists.proofs.Count.{count-le, count-none, count-flip}
 use Rattle.field.specs.Field.{add, mul, inverse}
 use Rattle.field.proofs.Field.{add-assoc, add-left-comm, add-self, add-zero, zero-add, add-lt, add-mul, mul-add, mul-assoc, mul-comm, mul-zero, zero-mul, mul-one, mul-lt}
 use Rattle.field.proofs.Inverse.{mul-inverse}
-use Rattle.reedsolomon.specs.Decoding.{dot, mix, Locator, polyOf, isPivot, Pivots, Candidate, Stored}
+use Rattle.reedsolomon.specs.Decoding.{dot, mix, unit, Locator, polyOf, isPivot, Pivots, Candidate, Cleared, Stored}
 
 -- ---- one polynomial added to another
 
@@ -88,6 +89,7 @@ module _ (S : ℕ → ℕ) (t w k : ℕ) where
       nought zero j = refl
       nought (suc n) zero = refl
       nought (suc n) (suc j) = nought n j
+
       empty : (i j : ℕ) → getD (polyOf w m i) j 0 ≡ 0
       empty i j = part w j (drop (i * w) m) (λ j. getD-drop (i * w) m j 0 ∙ ap (λ (l : List ℕ). getD l (i * w + j) 0) e ∙ nought (t * w) (i * w + j))
         where
@@ -147,6 +149,7 @@ module _ (S : ℕ → ℕ) (t w k : ℕ) where
                 up : (a < i) ⊎ (i < a) → (suc a < suc i) ⊎ (suc i < suc a)
                 up (inl x) = inl (omega arith)
                 up (inr x) = inr (omega arith)
+
             outside : (j : ℕ) → j < w → (a < i) ⊎ (i < a) → getD m' (a * w + j) 0 ≡ getD m (a * w + j) 0
             outside j b (inl x) = s .before (a * w + j) (omega (arith, fits-part a i w x))
             outside j b (inr x) = s .after (a * w + j) (omega (arith, fits-part i a w x, c .size))
@@ -171,5 +174,70 @@ module _ (S : ℕ → ℕ) (t w k : ℕ) where
         }
 
 -- a candidate that satisfies all equations is a locator
-pub locates : (S : ℕ → ℕ) (t k : ℕ) (v : List ℕ) → Candidate S (t + 1) k t v → Locator S t v
-locates S t k v c = record { size = c .size; degree = k; lead = c .lead; zeros = c .zeros }
+pub locates : (S : ℕ → ℕ) (w k : ℕ) (v : List ℕ) → 0 < w → Candidate S w k (w - 1) v → Locator S (w - 1) v
+locates S w k v l c = record { size = c .size ∙ omega arith; some = record { degree = k; lead = c .lead }; zeros = c .zeros }
+
+-- ---- the steps as the code takes them
+
+part-is : (m : List ℕ) (a w i : ℕ) → a ≡ i * w → take (a + w - a) (drop a m) ≡ polyOf w m i
+part-is m a w i e =
+    let n : a + w - a ≡ w = omega arith in
+    ap₂ (λ (x y : ℕ). take x (drop y m)) n e
+
+module _ (S : ℕ → ℕ) (e k : ℕ) (m v : List ℕ) (i a : ℕ) (l : i < e) (start : a ≡ i * length v) (p : Pivots S e (length v) k m) (c : Candidate S (length v) k i v) where
+  abbrev part : List ℕ
+  part = take (a + length v - a) (drop a m)
+
+  own-part : dot part S i ≡ dot (polyOf (length v) m i) S i
+  own-part = ap (λ (x : List ℕ). dot x S i) (part-is m a (length v) i start)
+
+  pub cleared-holds : dot v S i ≡ 0 → Cleared S e (length v) k (i + 1) m m v true
+  cleared-holds z = record { goes = λ q. (refl, holds S e (length v) k i v c z); stops = λ q. absurd (true≢false q) }
+
+  pub cleared-kept : (m' v' : List ℕ) → Stored m a v m' → dot part S i ≡ 0 → (dot v S i ≡ 0 → ⊥) → Cleared S e (length v) k (i + 1) m m' v' false
+  cleared-kept m' v' s z nz = record {
+    goes = λ q. absurd (false≢true q);
+    stops = λ q. keeps S e (length v) k i v c m p l m' (subst (λ (x : ℕ). Stored m x v m') start s) (sym own-part ∙ z) nz;
+  }
+
+  pub cleared-mixed :
+      (f : ℕ) → (dot part S i ≡ 0 → ⊥) → f ≡ mul (dot v S i) (inverse (dot part S i)) → Cleared S e (length v) k (i + 1) m m (mix f part v) true
+  cleared-mixed f nz q = record {
+    goes = λ r. (
+      refl,
+      subst (λ (x : List ℕ). Candidate S (length v) k (i + 1) (mix f x v)) (sym (part-is m a (length v) i start))
+          (clears S e (length v) k i v c m p l f (λ z. nz (own-part ∙ z)) (q ∙ ap (λ (x : ℕ). mul (dot v S i) (inverse x)) own-part)),
+    );
+    stops = λ r. absurd (true≢false r);
+  }
+
+-- one equation after the others
+pub cleared-next : (S : ℕ → ℕ) (e w k i : ℕ) (m₀ m m' v v' : List ℕ) (r : Bool) → length v ≡ w
+    → ((e k : ℕ) → i < e → Pivots S e (length v) k m → Candidate S (length v) k i v → Cleared S e (length v) k (i + 1) m m' v' r)
+    → i < e → (m ≡ m₀) × Candidate S w k i v → Pivots S e w k m₀ → Cleared S e w k (i + 1) m₀ m' v' r
+cleared-next S e w k i m₀ m m' v v' r len f l h p =
+    subst (λ (n : ℕ). Cleared S e n k (i + 1) m₀ m' v' r) len
+    (subst (λ (x : List ℕ). Cleared S e (length v) k (i + 1) x m' v' r) (h .0)
+    (f e k l (subst (λ (x : List ℕ). Pivots S e (length v) k x) (sym (h .0)) (subst (λ (n : ℕ). Pivots S e n k m₀) (sym len) p))
+    (subst (λ (n : ℕ). Candidate S n k i v) (sym len) (h .1))))
+
+-- x^k satisfies none of the equations yet
+pub unit-candidate : (S : ℕ → ℕ) (w k : ℕ) → k < w → Candidate S w k 0 (unit w k)
+unit-candidate S w k l = record {
+  size = length-tabulate (λ j. bit (eqb j k)) w;
+  lead = getD-tabulate (λ j. bit (eqb j k)) w k l ∙ ap bit (eq-eqb k k refl);
+  high = λ j h. dite (ℕ-discrete (1 - (w - j)) 0)
+      (λ q. getD-tabulate (λ j. bit (eqb j k)) w j (omega (arith, q)) ∙ ap bit (ne-eqb j k (λ z. omega (arith, z))))
+      (λ q. List·getD-eq-default (unit w k) 0 (rw (length-tabulate (λ j. bit (eqb j k)) w) (omega (arith, q))));
+  zeros = λ j h. absurd (omega arith);
+}
+
+-- one power of x after the others
+pub reduced : (S : ℕ → ℕ) (w k : ℕ) (m m' u v' : List ℕ) (r : Bool) → u ≡ unit w k → k < w
+    → ((k : ℕ) → Pivots S (length u - 1) (length u) k m → Candidate S (length u) k 0 u → Cleared S (length u - 1) (length u) k (length u - 1) m m' v' r)
+    → Pivots S (w - 1) w k m → Cleared S (w - 1) w k (w - 1) m m' v' r
+reduced S w k m m' u v' r e l f p =
+    let len : length u ≡ w = ap length e ∙ length-tabulate (λ j. bit (eqb j k)) w in
+    subst (λ (n : ℕ). Cleared S (n - 1) n k (n - 1) m m' v' r) len
+    (f k (subst (λ (n : ℕ). Pivots S (n - 1) n k m) (sym len) p)
+    (subst (λ (n : ℕ). Candidate S n k 0 u) (sym len) (subst (λ (x : List ℕ). Candidate S w k 0 x) (sym e) (unit-candidate S w k l))))

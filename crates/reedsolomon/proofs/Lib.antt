@@ -7,3 +7,4 @@ pub mod Roots
 pub mod Elimination
 pub mod Values
 pub mod Mended
+pub mod Loops

@@ -214,7 +214,7 @@ module _ (p t : ℕ) (w c : List ℕ) (hw : Bytes w) (short : length w ≤ 255) 
   at-spots = ap (rootPlaces q) (sym ld) ∙ found-places (found .1)
 
   few : length ks ≤ t
-  few = omega (arith, roots-few (length w) q hq short (lead-nonzero q (loc .degree) (loc .lead)), loc .size)
+  few = omega (arith, roots-few (length w) q hq short (lead-nonzero q (loc .some)), loc .size)
 
   right : (m : ℕ) → m < length ks → errorValue S ks m ≡ getD (map byte (found .0)) m 0
   right m l =

@@ -2,18 +2,20 @@
 -- Assumes nothing.
 use mathlib.Core.Path.{_≡_, refl, sym, ap, ap₂, _∙_, subst}
 use mathlib.Core.Bool.{Bool, true, false, cond}
-use mathlib.Core.List.{List, [], _∷_}
+use mathlib.Core.List.{List, [], _∷_, _++_, append-assoc}
 use mathlib.Core.Logic.{_≢_}
-use Prim.Native.Nat.{ℕ, zero, suc, _+_, _<_, _≤_}
+use Prim.Native.Nat.{ℕ, zero, suc, _+_, _-_, _<_, _≤_}
 use native.Mathlib.Omega.{arith}
 use borrow.Author.Tests.{eq-eqb, ne-eqb, eqb-true, eqb-false}
 use lib.Dec.{eqb}
-use lib.ListN.{length, getD}
+use native.Mathlib.Numerals.{add-one}
+use lib.ListN.{length, getD, set, take, length-append}
+use lib.Seq.{length-take-le, take-suc-set}
 use Rattle.lists.specs.Bytes.{Bytes}
 use Rattle.field.specs.Field.{add, mul, pow}
 use Rattle.field.proofs.Field.{add-assoc, add-comm, add-left-comm, add-zero, zero-add, add-cancel, eq-of-add, add-lt, add-mul, mul-add, mul-left-comm, mul-zero, mul-lt, zero-of-mul}
 use Rattle.field.proofs.Powers.{alpha-lt, powers-differ}
-use Rattle.reedsolomon.specs.Decoding.{polyAt, rootPlaces}
+use Rattle.reedsolomon.specs.Decoding.{polyAt, rootPlaces, NonZero}
 
 -- ---- division by x + a
 
@@ -69,11 +71,14 @@ divide-zero a (c ∷ []) e z = (sym (ap (add c) (mul-zero a) ∙ add-zero c) ∙
 divide-zero a (c ∷ d ∷ cs) e z =
     (sym (ap (λ (x : ℕ). add c (mul a x)) (z .0) ∙ ap (add c) (mul-zero a) ∙ add-zero c) ∙ e, divide-zero a (d ∷ cs) (z .0) (z .1))
 
-pub lead-nonzero : (c : List ℕ) (d : ℕ) → getD c d 0 ≡ 1 → AllZero c → ⊥
+one-nonzero : (c : List ℕ) (d : ℕ) → getD c d 0 ≡ 1 → AllZero c → ⊥
 unfolding AllZero
-lead-nonzero [] d e z = omega arith
-lead-nonzero (c ∷ cs) zero e z = omega (arith, z .0)
-lead-nonzero (c ∷ cs) (suc d) e z = lead-nonzero cs d e (z .1)
+one-nonzero [] d e z = omega arith
+one-nonzero (c ∷ cs) zero e z = omega (arith, z .0)
+one-nonzero (c ∷ cs) (suc d) e z = one-nonzero cs d e (z .1)
+
+pub lead-nonzero : (c : List ℕ) → NonZero c → AllZero c → ⊥
+lead-nonzero c n = one-nonzero c (n .degree) (n .lead)
 
 -- ---- the roots among the powers of α
 
@@ -94,10 +99,13 @@ divide-roots c m (suc n) hc l h e =
   where
     a : ℕ
     a = pow 2 m
+
     x : ℕ
     x = pow 2 n
+
     value : polyAt c x ≡ mul (add x a) (polyAt (divide a c) x)
     value = divide-value a x c ∙ ap (add (mul (add x a) (polyAt (divide a c) x))) e ∙ add-zero (mul (add x a) (polyAt (divide a c) x))
+
     same : (t : Bool) → eqb (polyAt (divide a c) x) 0 ≡ t → t ≡ eqb (polyAt c x) 0
     same true q = sym (eq-eqb (polyAt c x) 0 (value ∙ ap (mul (add x a)) (eqb-true (polyAt (divide a c) x) 0 q) ∙ mul-zero (add x a)))
     same false q =
@@ -115,6 +123,7 @@ roots-few (suc n) c hc l nz = go (eqb (polyAt c (pow 2 n)) 0) refl (some c nz) (
     some : (c : List ℕ) → (AllZero c → ⊥) → 0 < length c
     some [] nz = absurd (nz tt)
     some (c ∷ cs) nz = omega arith
+
     go : (t : Bool) → eqb (polyAt c (pow 2 n)) 0 ≡ t → 0 < length c
         → ((d : List ℕ) → Bytes d → (AllZero d → ⊥) → length (rootPlaces d n) < length d) → length (rootPlaces c (suc n)) < length c
     go true q s rec =
@@ -123,3 +132,31 @@ roots-few (suc n) c hc l nz = go (eqb (polyAt c (pow 2 n)) 0) refl (some c nz) (
         rec (divide (pow 2 n) c) (divide-bytes (pow 2 n) c hc) (λ z. nz (divide-zero (pow 2 n) c e z)) in
         omega (arith, ap length (roots-hit c n e), ap length (divide-roots c n n hc (omega arith) l e), divide-length (pow 2 n) c s)
     go false q s rec = omega (arith, ap length (roots-miss c n (eqb-false (polyAt c (pow 2 n)) 0 q)), rec c hc nz)
+
+-- ---- the search, as its loop goes: count places are found, and those below k are to come
+
+module _ (c out : List ℕ) (count k n : ℕ) (pos : 0 < k) (inside : count ≤ length out) (inv : take count out ++ rootPlaces c k ≡ rootPlaces c n) where
+  next : suc (k - 1) ≡ k
+  next = omega arith
+
+  pub search-miss : (polyAt c (pow 2 (k - 1)) ≡ 0 → ⊥) → take count out ++ rootPlaces c (k - 1) ≡ rootPlaces c n
+  search-miss e = ap (_++_ (take count out)) (sym (roots-miss c (k - 1) e) ∙ ap (rootPlaces c) next) ∙ inv
+
+  module _ (e : polyAt c (pow 2 (k - 1)) ≡ 0) where
+    here : rootPlaces c k ≡ (k - 1) ∷ rootPlaces c (k - 1)
+    here = sym (ap (rootPlaces c) next) ∙ roots-hit c (k - 1) e
+
+    pub search-room : Bytes c → n ≤ 255 → NonZero c → length c ≡ length out + 1 → count < length out
+    search-room hc l nz len =
+        omega (
+          arith,
+          roots-few n c hc l (lead-nonzero c nz),
+          sym (ap length inv) ∙ length-append (take count out) (rootPlaces c k),
+          length-take-le count out inside,
+          ap length here,
+        )
+
+    pub search-hit : count < length out → take (count + 1) (set out count (k - 1)) ++ rootPlaces c (k - 1) ≡ rootPlaces c n
+    search-hit l =
+        ap (λ (x : List ℕ). x ++ rootPlaces c (k - 1)) (ap (λ (m : ℕ). take m (set out count (k - 1))) (add-one count) ∙ take-suc-set out count (k - 1) l)
+        ∙ append-assoc (take count out) ((k - 1) ∷ []) (rootPlaces c (k - 1)) ∙ ap (_++_ (take count out)) (sym here) ∙ inv

@@ -102,6 +102,7 @@ module _ (ks : List ℕ) (j : ℕ) (es : List Err) (S : ℕ → ℕ) (n : ℕ) (
     where
       x : ℕ
       x = pow 2 (getD ks l 0)
+
       go : (t : Bool) → eqb l j ≡ t → (Room l i → withoutOthers ks j l S i ≡ sum (map (scaled (spread ks j l)) es) i)
           → (Room l (suc i) → withoutOthers ks j l S (suc i) ≡ sum (map (scaled (spread ks j l)) es) (suc i))
           → cond t (withoutOthers ks j l S) (without x (withoutOthers ks j l S)) i
@@ -124,6 +125,7 @@ spread-own ks j (suc l) m h ne = go (eqb l j) refl (λ k. spread-own ks j l m k 
   where
     x : ℕ
     x = pow 2 (getD ks m 0)
+
     go : (t : Bool) → eqb l j ≡ t → (m < l → spread ks j l x ≡ 0) → cond t (spread ks j l x) (mul (spread ks j l x) (add x (pow 2 (getD ks l 0)))) ≡ 0
     go true q r = r (lt-of-le-ne (le-of-suc-le-suc h) (λ z. ne (z ∙ eqb-true l j q)))
     go false q r = dite (ℕ-discrete m l)
@@ -147,6 +149,7 @@ module _ (n : ℕ) (ks : List ℕ) (j : ℕ) (short : n ≤ 255) (falls : Descen
     where
       x : ℕ
       x = pow 2 (getD ks j 0)
+
       go : (t : Bool) → eqb l j ≡ t → spread ks j l x ≢ 0 → cond t (spread ks j l x) (mul (spread ks j l x) (add x (pow 2 (getD ks l 0)))) ≢ 0
       go true q r = r
       go false q r = λ e.

@@ -7,7 +7,8 @@ use mathlib.Core.List.{List, [], _∷_}
 use Prim.Native.Nat.{ℕ, zero, suc, _+_, _*_, _-_, _<_, _≤_}
 use lib.Dec.{eqb}
 use lib.ListN.{length, getD, set, take, drop}
-use Rattle.lists.specs.Count.{countFrom}
+use Rattle.lists.specs.Count.{bit, countFrom}
+use Rattle.lists.specs.Fill.{tabulate}
 use Rattle.field.specs.Field.{add, mul, pow, inverse}
 
 -- the syndromes as a function, from the list of them
@@ -30,12 +31,20 @@ mix f [] v = v
 mix f (a ∷ c) [] = []
 mix f (a ∷ c) (b ∷ v) = add b (mul f a) ∷ mix f c v
 
+-- a coefficient is 1, so that the polynomial is not 0
+pub record NonZero (c : List ℕ) : Type 0 where
+  pub degree : ℕ
+  pub lead : getD c degree 0 ≡ 1
+
 -- c satisfies the key equations 0 .. t-1 of the syndromes S, has t + 1 coefficients, and is not 0
 pub record Locator (S : ℕ → ℕ) (t : ℕ) (c : List ℕ) : Type 0 where
   pub size : length c ≡ t + 1
-  pub degree : ℕ
-  pub lead : getD c degree 0 ≡ 1
+  pub some : NonZero c
   pub zeros : (i : ℕ) → i < t → dot c S i ≡ 0
+
+-- x^k among polynomials with n coefficients
+abbrev pub unit : ℕ → ℕ → List ℕ
+unit n k = tabulate (λ j. bit (eqb j k)) n
 
 -- ---- the elimination. Of 1, x, x^2, .. the first is sought that satisfies the key equations once multiples of those before it are added. One that does
 -- not is kept as the pivot of the first equation it fails.

@@ -1,0 +1,123 @@
+-- The definitions as loops compute them.
+-- Assumes nothing.
+use mathlib.Core.Path.{_≡_, refl, sym, ap, ap₂, _∙_}
+use mathlib.Core.List.{List, [], _∷_}
+use Prim.Native.Nat.{ℕ, zero, suc, _+_, _-_, _<_, _≤_}
+use native.Mathlib.Nat.{le-refl}
+use native.Mathlib.Numerals.{add-one}
+use native.Mathlib.Omega.{arith}
+use mathlib.Core.Logic.{dite}
+use native.Mathlib.Decide.{ℕ-discrete}
+use borrow.Author.Tests.{eq-eqb, ne-eqb}
+use lib.ListN.{length, getD, set, drop, length-set, drop-of-length-le, List·getD-eq-default}
+use lib.Seq.{drop-cons, getD-set-same, getD-set-other}
+use Rattle.lists.specs.Fill.{tabulate}
+use Rattle.lists.proofs.Fill.{length-tabulate, getD-tabulate}
+use Rattle.field.specs.Field.{add, mul, pow}
+use Rattle.field.proofs.Field.{add-assoc, add-zero, zero-add, mul-zero}
+use Rattle.reedsolomon.specs.Decoding.{at, dot, polyAt, Stored, without, withoutOthers, spread, errorValue, change, mendFrom}
+
+-- ---- a key equation, from the front on
+
+pub dot-start : (c : List ℕ) (S : ℕ → ℕ) (i : ℕ) → add 0 (dot (drop 0 c) S (i + 0)) ≡ dot c S i
+dot-start c S i = zero-add (dot c S (i + 0)) ∙ ap (dot c S) (omega arith)
+
+pub dot-next : (c : List ℕ) (S : ℕ → ℕ) (i j sum v : ℕ) → j < length c → v ≡ mul (getD c j 0) (S (i + j))
+    → add (add sum v) (dot (drop (j + 1) c) S (i + (j + 1))) ≡ add sum (dot (drop j c) S (i + j))
+unfolding dot
+dot-next c S i j sum v h e =
+    add-assoc sum v (dot (drop (j + 1) c) S (i + (j + 1)))
+    ∙ ap (add sum) (ap₂ add e (ap₂ (λ (n m : ℕ). dot (drop n c) S m) (add-one j) (omega arith)) ∙ sym (ap (λ (l : List ℕ). dot l S (i + j)) (drop-cons c j 0 h)))
+
+pub dot-end : (c : List ℕ) (S : ℕ → ℕ) (i j sum : ℕ) → length c ≤ j → add sum (dot (drop j c) S (i + j)) ≡ sum
+unfolding dot
+dot-end c S i j sum h = ap (λ (l : List ℕ). add sum (dot l S (i + j))) (drop-of-length-le c h) ∙ add-zero sum
+
+-- ---- the value of a polynomial, from the end on
+
+pub poly-start : (c : List ℕ) (x : ℕ) → polyAt (drop (length c) c) x ≡ 0
+unfolding polyAt
+poly-start c x = ap (λ (l : List ℕ). polyAt l x) (drop-of-length-le c (le-refl (length c)))
+
+pub poly-next : (c : List ℕ) (x i v : ℕ) → 0 < i → i ≤ length c → v ≡ polyAt (drop i c) x → add (getD c (i - 1) 0) (mul x v) ≡ polyAt (drop (i - 1) c) x
+unfolding polyAt
+poly-next c x i v p h e =
+    let k : suc (i - 1) ≡ i = omega arith in
+    ap (λ (y : ℕ). add (getD c (i - 1) 0) (mul x y)) (e ∙ ap (λ (n : ℕ). polyAt (drop n c) x) (sym k)) ∙ sym (ap (λ (l : List ℕ). polyAt l x) (drop-cons c (i - 1) 0 (omega arith)))
+
+-- ---- a list stored into another, place by place
+
+pub record Storing (m : List ℕ) (a : ℕ) (v m' : List ℕ) (n : ℕ) : Type 0 where
+  pub same : length m' ≡ length m
+  pub inside : (j : ℕ) → j < n → getD m' (a + j) 0 ≡ getD v j 0
+  pub before : (j : ℕ) → j < a → getD m' j 0 ≡ getD m j 0
+  pub after : (j : ℕ) → a + n ≤ j → getD m' j 0 ≡ getD m j 0
+
+pub storing-none : (m : List ℕ) (a : ℕ) (v : List ℕ) → Storing m a v m 0
+storing-none m a v = record { same = refl; inside = λ j l. absurd (omega arith); before = λ j l. refl; after = λ j l. refl }
+
+pub storing-more : (m : List ℕ) (a : ℕ) (v m' : List ℕ) (n x : ℕ) → a + n < length m' → x ≡ getD v n 0 → Storing m a v m' n → Storing m a v (set m' (a + n) x) (n + 1)
+storing-more m a v m' n x h e s = record {
+  same = length-set m' (a + n) x ∙ s .same;
+  inside = λ j l. dite (ℕ-discrete j n) (λ q. rw q (getD-set-same m' (a + n) x 0 h ∙ e))
+      (λ q. getD-set-other m' (a + n) (a + j) x 0 (λ z. q (omega (arith, z))) ∙ s .inside j (omega (arith, q)));
+  before = λ j l. getD-set-other m' (a + n) j x 0 (λ z. omega (arith, z)) ∙ s .before j l;
+  after = λ j l. getD-set-other m' (a + n) j x 0 (λ z. omega (arith, z)) ∙ s .after j (omega arith);
+}
+
+pub storing-all : (m : List ℕ) (a : ℕ) (v m' : List ℕ) (n : ℕ) → n ≡ length v → Storing m a v m' n → Stored m a v m'
+storing-all m a v m' n e s = record { same = s .same; inside = λ j l. s .inside j (omega arith); before = s .before; after = λ j l. s .after j (omega arith) }
+
+-- ---- the value of an error: the other errors taken out of the syndromes, one after the other
+
+module _ (ks : List ℕ) (j l : ℕ) where
+  pub others-skip : l ≡ j → (S : ℕ → ℕ) (i : ℕ) → withoutOthers ks j (l + 1) S i ≡ withoutOthers ks j l S i
+  unfolding withoutOthers
+  others-skip e S i = rw (add-one l, eq-eqb l j e)
+
+  pub spread-skip : l ≡ j → (x : ℕ) → spread ks j (l + 1) x ≡ spread ks j l x
+  unfolding spread
+  spread-skip e x = rw (add-one l, eq-eqb l j e)
+
+  pub others-take : (l ≡ j → ⊥) → (S : ℕ → ℕ) (i : ℕ) → withoutOthers ks j (l + 1) S i ≡ without (pow 2 (getD ks l 0)) (withoutOthers ks j l S) i
+  unfolding withoutOthers
+  others-take e S i = rw (add-one l, ne-eqb l j e)
+
+  pub spread-take : (l ≡ j → ⊥) → (x : ℕ) → spread ks j (l + 1) x ≡ mul (spread ks j l x) (add x (pow 2 (getD ks l 0)))
+  unfolding spread
+  spread-take e x = rw (add-one l, ne-eqb l j e)
+
+-- a list of syndromes with one error taken out, as a function
+pub without-at : (y : ℕ) (s r : List ℕ) → r ≡ tabulate (without y (at s)) (length s) → (i : ℕ) → at r i ≡ without y (at s) i
+unfolding without
+without-at y s r e i = dite (ℕ-discrete (1 - (length s - i)) 0)
+    (λ q. ap (λ (x : List ℕ). at x i) e ∙ getD-tabulate (λ i. add (at s (suc i)) (mul y (at s i))) (length s) i (omega (arith, q)))
+    (λ q.
+    let l : length s ≤ i = omega (arith, q) in
+    ap (λ (x : List ℕ). at x i) e ∙ List·getD-eq-default (tabulate (λ i. add (at s (suc i)) (mul y (at s i))) (length s)) 0 (rw (length-tabulate (λ i. add (at s (suc i)) (mul y (at s i))) (length s)) l)
+    ∙ sym (ap₂ (λ (a b : ℕ). add a (mul y b)) (List·getD-eq-default s 0 (omega arith)) (List·getD-eq-default s 0 l) ∙ ap (add 0) (mul-zero y) ∙ zero-add 0))
+
+without-same : (y : ℕ) (S R : ℕ → ℕ) → ((i : ℕ) → S i ≡ R i) → (i : ℕ) → without y S i ≡ without y R i
+unfolding without
+without-same y S R h i = ap₂ (λ (a b : ℕ). add a (mul y b)) (h (suc i)) (h i)
+
+pub others-next : (ks s r r' : List ℕ) (j l y : ℕ) → (l ≡ j → ⊥) → y ≡ pow 2 (getD ks l 0) → r' ≡ tabulate (without y (at r)) (length r)
+    → ((i : ℕ) → at r i ≡ withoutOthers ks j l (at s) i) → (i : ℕ) → at r' i ≡ withoutOthers ks j (l + 1) (at s) i
+others-next ks s r r' j l y ne e t h i =
+    without-at y r r' t i ∙ without-same y (at r) (withoutOthers ks j l (at s)) h i
+    ∙ ap (λ (x : ℕ). without x (withoutOthers ks j l (at s)) i) e ∙ sym (others-take ks j l ne (at s) i)
+
+-- ---- the word without its errors
+
+pub mend-next : (S : ℕ → ℕ) (ks w : List ℕ) (j : ℕ) → j < length ks
+    → mendFrom S ks (j + 1) (length ks - (j + 1)) (change w (getD ks j 0) (errorValue S ks j)) ≡ mendFrom S ks j (length ks - j) w
+unfolding mendFrom
+mend-next S ks w j h =
+    let e : length ks - j ≡ suc (length ks - (j + 1)) = omega arith in
+    sym (ap (λ (n : ℕ). mendFrom S ks j n w) e ∙ ap (λ (m : ℕ). mendFrom S ks m (length ks - (j + 1)) (change w (getD ks j 0) (errorValue S ks j))) (sym (add-one j)))
+
+pub mend-end : (S : ℕ → ℕ) (ks w : List ℕ) (j : ℕ) → length ks ≤ j → mendFrom S ks j (length ks - j) w ≡ w
+unfolding mendFrom
+mend-end S ks w j h =
+    let e : length ks - j ≡ 0 = omega arith in
+    ap (λ (n : ℕ). mendFrom S ks j n w) e

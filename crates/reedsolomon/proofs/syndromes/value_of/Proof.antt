@@ -1,0 +1,58 @@
+-- `syndromes::value_of` meets its contract: Horner's rule, byte by byte. Assumes nothing.
+use mathlib.Core.Path.{_≡_, refl, sym, ap, ap₂, _∙_}
+use mathlib.Core.List.{List}
+use Prim.Native.Nat.{ℕ, _+_, _-_, _<_, _≤_}
+use lib.ListN.{length, getD, drop}
+use Rattle.field.specs.Field.{add, mul, pow}
+use Rattle.reedsolomon.specs.Word.{valueFrom, valueAt}
+use Rattle.reedsolomon.proofs.Words.{valueFrom-next, valueFrom-end}
+use native.Mathlib.Omega.{arith}
+use borrow.Author.Needs.{needs}
+use Rattle.reedsolomon.proofs.syndromes.value_of.Statement.{statement}
+use Rattle.reedsolomon.proofs.syndromes.value_of.Tie as tie
+use Rattle.reedsolomon.proofs.syndromes.value_of.Reads as reads
+use Rattle.reedsolomon.proofs.syndromes.value_of.Lts as lts
+use Rattle.field.proofs.product.Reads as product-reads
+
+abbrev Inv-loop : tie.InvT-loop
+Inv-loop t w x v₀ i₀ v i = (i ≤ length w) × (valueFrom x v (drop i w) ≡ valueAt w x)
+
+abbrev μ-loop : tie.MeasureT-loop
+μ-loop t w x v₀ i₀ v i = length w - i
+
+loop-holds : tie.Need-loop-holds Inv-loop μ-loop
+unfolding valueAt
+loop-holds c = (omega arith, refl)
+
+product-requires : tie.Need-product-requires Inv-loop μ-loop
+product-requires c κs = c .before .before .before .pre
+
+shared-slice-read-v : tie.Need-shared-slice-read-v Inv-loop μ-loop
+shared-slice-read-v c = omega arith
+
+add-i : tie.Need-add-i Inv-loop μ-loop
+add-i c = omega arith
+
+loop-less : tie.Need-loop-less Inv-loop μ-loop
+loop-less c = omega arith
+
+loop-again : tie.Need-loop-again Inv-loop μ-loop
+unfolding add
+loop-again c = (omega arith, rw (c .before .product .ensures) (valueFrom-next (c .before .before .before .before .before .args .x) (c .before .before .before .loop .v) (c .before .before .before .before .before .args .w .now) (c .before .before .before .loop .i) (omega arith) ∙ c .before .before .before .loop .inv .1))
+
+returns : tie.Need-returns Inv-loop μ-loop
+returns c = sym (valueFrom-end (c .before .before .before .args .x) (c .before .loop .v) (c .before .before .before .args .w .now) (c .before .loop .i) (omega arith)) ∙ c .before .loop .inv .1
+
+pub value-of-spec : {M : Type 1} → statement M
+value-of-spec =
+    tie.close
+    (tie.spec
+    Inv-loop
+    μ-loop
+    loop-holds
+    product-requires
+    shared-slice-read-v
+    add-i
+    loop-less
+    loop-again
+    returns)
