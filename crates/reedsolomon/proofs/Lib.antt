@@ -3,3 +3,4 @@ pub mod Words
 pub mod KeyEquation
 pub mod Division
 pub mod Nearest
+pub mod Shift
