@@ -1,4 +1,4 @@
-// Parity bytes by long division (ECMA-268, 16.1.2 and clause 18; document 01, 'The block'). The core is on slices: the generator, without its first
+// Parity bytes by long division (ECMA-268, 16.2 and clause 18; document 01, 'The block'). The core is on slices: the generator, without its first
 // coefficient, and the register are of any one length. The table of logarithms is lent, so that no row makes it anew.
 ghost use mathlib.Core.Path.{_≡_};
 ghost use Prim.Native.Nat.{_<_};
@@ -106,7 +106,7 @@ pub fn parity16_with(t: &[u8; 768], d: &[u8]) -> [u8; 16]
     reg
 }
 
-// IED of an ID (16.1.2).
+// IED of an ID (16.2).
 pub fn parity2(d: &[u8; 4]) -> [u8; 2]
     ensures { λ r. ⌜ r ≡ parity 2 (now (d .entry)) ⌝ }
 {

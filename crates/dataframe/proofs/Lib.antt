@@ -1,0 +1,3 @@
+pub mod Scrambled
+pub mod Framed
+pub mod Checked
