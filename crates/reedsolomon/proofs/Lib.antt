@@ -8,3 +8,4 @@ pub mod Elimination
 pub mod Values
 pub mod Mended
 pub mod Loops
+pub mod Shift

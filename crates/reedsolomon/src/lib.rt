@@ -10,3 +10,12 @@ pub enum Outcome {
     Corrected,
     Uncorrectable,
 }
+
+mod parity;
+
+pub use parity::parity2;
+pub use parity::parity2_with;
+pub use parity::parity10;
+pub use parity::parity10_with;
+pub use parity::parity16;
+pub use parity::parity16_with;

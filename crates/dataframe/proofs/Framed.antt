@@ -1,0 +1,131 @@
+-- Data Frames: lengths, fields, and what the code builds.
+-- Assumes nothing.
+use mathlib.Core.Path.{_≡_, refl, sym, ap, ap₂, _∙_}
+use mathlib.Core.List.{List, [], _∷_, _++_, append-assoc, append-nil}
+use Prim.Native.Nat.{ℕ, zero, suc, _+_, _*_, _-_, _/_, _%_, _<_, _≤_}
+use native.Mathlib.Numerals.{add-one}
+use native.Mathlib.Omega.{arith}
+use lib.ListN.{length, getD, take, drop, replicate, length-append, length-drop, length-replicate, drop-of-length-le, List·getD-append}
+use lib.Seq.{drop-cons, getD-append-add, take-all, take-at, drop-at, length-take-le, paste, length-paste, take-paste, drop-paste}
+use Rattle.lists.specs.Bytes.{Bytes}
+use Rattle.lists.proofs.Bytes.{append-bytes, zeros-bytes}
+use Rattle.reedsolomon.specs.Parity.{parity}
+use Rattle.reedsolomon.proofs.Division.{two-roots, parity-length, parity-bytes}
+use Rattle.dataframe.specs.Frame.{idOf, iedOf, cprMai, headOf, edcBits, edcFrom, fourBytes, edcOf, dataFrame}
+
+-- ---- EDC, byte by byte
+
+pub edc-next : (r : ℕ) (xs : List ℕ) (i : ℕ) → i < length xs → edcFrom (edcBits r (getD xs i 0) 8) (drop (i + 1) xs) ≡ edcFrom r (drop i xs)
+unfolding edcFrom
+edc-next r xs i h = rw (drop-cons xs i 0, add-one)
+
+pub edc-end : (r : ℕ) (xs : List ℕ) (i : ℕ) → length xs ≤ i → edcFrom r (drop i xs) ≡ r
+unfolding edcFrom
+edc-end r xs i h = rw (drop-of-length-le xs h)
+
+pub edc-length : (xs : List ℕ) → length (edcOf xs) ≡ 4
+unfolding edcOf fourBytes
+edc-length xs = refl
+
+edc-bytes : (xs : List ℕ) → Bytes (edcOf xs)
+unfolding edcOf fourBytes Bytes
+edc-bytes xs = (omega arith, (omega arith, (omega arith, (omega arith, tt))))
+
+-- ---- ID, IED and CPR_MAI
+
+pub id-length : (info n : ℕ) → length (idOf info n) ≡ 4
+unfolding idOf
+id-length info n = refl
+
+pub ied-length : (id : List ℕ) → length (iedOf id) ≡ 2
+ied-length id = parity-length 2 two-roots id
+
+pub head-length : (info n : ℕ) → length (headOf info n) ≡ 12
+unfolding headOf
+head-length info n =
+    length-append (idOf info n) (iedOf (idOf info n) ++ cprMai)
+    ∙ ap₂ (λ (x y : ℕ). x + y) (id-length info n) (length-append (iedOf (idOf info n)) cprMai ∙ ap (λ (x : ℕ). x + 6) (ied-length (idOf info n)))
+
+head-bytes : (info n : ℕ) → info < 256 → Bytes (headOf info n)
+unfolding headOf idOf Bytes
+head-bytes info n h =
+    append-bytes (idOf info n) (iedOf (idOf info n) ++ cprMai) (h, (omega arith, (omega arith, (omega arith, tt))))
+    (append-bytes (iedOf (idOf info n)) cprMai (parity-bytes 2 two-roots (idOf info n)) (zeros-bytes 6))
+
+pair : (e : List ℕ) → length e ≡ 2 → e ≡ getD e 0 0 ∷ getD e 1 0 ∷ []
+pair [] l = absurd (omega arith)
+pair (a ∷ []) l = absurd (omega arith)
+pair (a ∷ b ∷ []) l = refl
+pair (a ∷ b ∷ c ∷ e) l = absurd (omega arith)
+
+-- what `head` returns
+pub head-built :
+    (info n a b c : ℕ) (e : List ℕ) → a ≡ n / 65536 % 256 → b ≡ n / 256 % 256 → c ≡ n % 256 → e ≡ parity 2 (info ∷ a ∷ b ∷ c ∷ [])
+    → info ∷ a ∷ b ∷ c ∷ getD e 0 0 ∷ getD e 1 0 ∷ 0 ∷ 0 ∷ 0 ∷ 0 ∷ 0 ∷ 0 ∷ [] ≡ headOf info n
+unfolding headOf idOf
+head-built info n a b c e p q r s =
+    let i : idOf info n ≡ info ∷ a ∷ b ∷ c ∷ [] = cc in
+    let k : iedOf (idOf info n) ≡ getD e 0 0 ∷ getD e 1 0 ∷ [] =
+    ap (parity 2) i ∙ sym s ∙ pair e (ap length s ∙ ied-length (info ∷ a ∷ b ∷ c ∷ [])) in
+    sym (ap₂ (λ (x y : List ℕ). x ++ (y ++ cprMai)) i k)
+
+-- ---- the frame over 2,048 main data bytes d
+
+module _ (d : List ℕ) (info n : ℕ) (len : length d ≡ 2048) where
+  front-length : length (headOf info n ++ d) ≡ 2060
+  front-length = length-append (headOf info n) d ∙ ap₂ (λ (x y : ℕ). x + y) (head-length info n) len
+
+  pub data-length : length (dataFrame d info n) ≡ 2064
+  unfolding dataFrame
+  data-length =
+      length-append (headOf info n ++ d) (edcOf (headOf info n ++ d)) ∙ ap₂ (λ (x y : ℕ). x + y) front-length (edc-length (headOf info n ++ d))
+
+  pub data-bytes : Bytes d → info < 256 → Bytes (dataFrame d info n)
+  unfolding dataFrame
+  data-bytes hd hi =
+      append-bytes (headOf info n ++ d) (edcOf (headOf info n ++ d)) (append-bytes (headOf info n) d (head-bytes info n hi) hd)
+      (edc-bytes (headOf info n ++ d))
+
+  pub data-head : (i : ℕ) → i < 12 → getD (dataFrame d info n) i 0 ≡ getD (headOf info n) i 0
+  unfolding dataFrame
+  data-head i h =
+      List·getD-append (headOf info n ++ d) (edcOf (headOf info n ++ d)) 0 i (omega (arith, front-length))
+      ∙ List·getD-append (headOf info n) d 0 i (omega (arith, head-length info n))
+
+  -- its fields: the bytes before EDC, EDC, and the main data
+  pub data-front : take 2060 (dataFrame d info n) ≡ headOf info n ++ d
+  unfolding dataFrame
+  data-front = take-at (headOf info n ++ d) (edcOf (headOf info n ++ d)) 2060 front-length
+
+  pub data-edc : drop 2060 (dataFrame d info n) ≡ edcOf (headOf info n ++ d)
+  unfolding dataFrame
+  data-edc = drop-at (headOf info n ++ d) (edcOf (headOf info n ++ d)) 2060 front-length
+
+  pub data-main : take 2048 (drop 12 (dataFrame d info n)) ≡ d
+  unfolding dataFrame
+  data-main =
+      ap (λ (x : List ℕ). take 2048 (drop 12 x)) (append-assoc (headOf info n) d (edcOf (headOf info n ++ d)))
+      ∙ ap (take 2048) (drop-at (headOf info n) (d ++ edcOf (headOf info n ++ d)) 12 (head-length info n))
+      ∙ take-at d (edcOf (headOf info n ++ d)) 2048 len
+
+  -- what `data_frame` builds: the head, the main data and EDC put into a frame one after the other
+  pub data-built :
+      (z h e f g r : List ℕ) → length z ≡ 2064 → h ≡ headOf info n → f ≡ paste z 0 h (length h) → g ≡ paste f 12 d (length d) → e ≡ edcOf (take 2060 g)
+      → r ≡ paste g 2060 e (length e) → r ≡ dataFrame d info n
+  unfolding dataFrame
+  data-built z h e f g r lz ph pf pg pe pr =
+      let lh : length h ≡ 12 = ap length ph ∙ head-length info n in
+      let le : length e ≡ 4 = ap length pe ∙ edc-length (take 2060 g) in
+      let lf : length f ≡ 2064 = ap length pf ∙ length-paste z 0 h (length h) (omega arith) (omega arith) ∙ lz in
+      let lg : length g ≡ 2064 = ap length pg ∙ length-paste f 12 d (length d) (omega arith) (omega arith) ∙ lf in
+      let n₁ : 12 ≡ 0 + length h = omega arith in
+      let n₂ : 2060 ≡ 12 + length d = omega (arith, len) in
+      let tf : take 12 f ≡ h =
+      ap₂ take n₁ pf ∙ take-paste z 0 h (length h) (omega arith) (omega arith) ∙ take-all (length h) h (omega arith) in
+      let tg : take 2060 g ≡ headOf info n ++ d =
+      ap₂ take n₂ pg ∙ take-paste f 12 d (length d) (omega arith) (omega arith)
+      ∙ ap₂ (λ (x y : List ℕ). x ++ y) (tf ∙ ph) (take-all (length d) d (omega arith)) in
+      let n₃ : length g ≤ 2060 + length e = omega arith in
+      let td : drop (2060 + length e) g ≡ [] = drop-of-length-le g n₃ in
+      pr ∙ ap (λ (x : List ℕ). take 2060 g ++ take (length e) e ++ x) td ∙ append-nil (take 2060 g ++ take (length e) e)
+      ∙ ap₂ (λ (x y : List ℕ). x ++ y) tg (take-all (length e) e (omega arith) ∙ pe ∙ ap edcOf tg)

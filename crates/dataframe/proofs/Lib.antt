@@ -1,0 +1,4 @@
+pub mod Scrambled
+pub mod Framed
+pub mod Checked
+pub mod Laws

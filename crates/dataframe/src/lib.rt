@@ -1,0 +1,289 @@
+// Data Frames and their scrambling (ECMA-268, clauses 16 and 17), and the checks of a frame that was read. Frames go in and come back by value; the table of
+// logarithms is lent, so that no frame makes it anew.
+ghost use mathlib.Core.Path.{_≡_};
+ghost use mathlib.Core.Bool.{_||_, not};
+ghost use Prim.Native.Nat.{_+_, _*_, _%_, _<_, _≤_};
+ghost use lib.Dec.{eqb};
+ghost use lib.ListN.{length};
+ghost use lib.Seq.{paste};
+ghost use Rattle.field.specs.Tables.{LogTable};
+ghost use Rattle.dataframe.specs.Frame.{headOf, edcBit, edcBits, edcFrom, edcOf, dataFrame};
+ghost use Rattle.dataframe.specs.Scrambling.{presets, presetOf, register, scrambled};
+ghost use Rattle.dataframe.specs.Checks.{numberOf, unscrambled, agree, iedPasses, idPasses, edcPasses, frameRefusal, checkNumber};
+
+// What the checks of a frame find. Document 01's number of each is `checkNumber`.
+pub enum FrameCheck {
+    Passed,
+    IedDiffers,
+    IdWrong,
+    EdcDiffers,
+}
+
+// ---- scrambling (clause 17)
+
+const PRESETS: [u16; 16] = [
+    0x0001, 0x5500, 0x0002, 0x2A00, 0x0004, 0x5400, 0x0008, 0x2800,
+    0x0010, 0x5000, 0x0020, 0x2001, 0x0040, 0x4002, 0x0080, 0x0005,
+];
+
+fn preset_values() -> [u16; 16]
+    ensures { λ r. ⌜ r ≡ presets ⌝ }
+{
+    PRESETS
+}
+
+fn preset(n: u32) -> u16
+    ensures { λ r. ⌜ (r ≡ presetOf n) × (r < 32768) ⌝ }
+{
+    let t = preset_values();
+    let k = (n / 16 % 16) as usize;
+    t[k]
+}
+
+fn eight_shifts(r: u16) -> u16
+    requires { ⌜ r < 32768 ⌝ }
+    ensures { λ s. ⌜ (s ≡ register r 8) × (s < 32768) ⌝ }
+{
+    let mut s = r;
+    let mut i: usize = 0;
+    while i < 8 {
+        s = s * 2 % 32768 + (s / 16384 + s / 1024) % 2;
+        i += 1;
+    }
+    s
+}
+
+fn low_byte(r: u16) -> u8
+    ensures { λ s. ⌜ s ≡ r % 256 ⌝ }
+{
+    (r % 256) as u8
+}
+
+// The main data bytes of the frame of sector n, scrambled or unscrambled.
+pub fn scramble(f: [u8; 2064], n: u32) -> [u8; 2064]
+    ensures { λ r. ⌜ r ≡ scrambled n f ⌝ }
+{
+    let mut g = f;
+    let mut r = preset(n);
+    let mut q: usize = 12;
+    while q < 2060 {
+        g[q] = g[q] ^ low_byte(r);
+        r = eight_shifts(r);
+        q += 1;
+    }
+    g
+}
+
+// ---- EDC (16.4)
+
+fn edc_bit(r: u32, b: u32) -> u32
+    requires { ⌜ b < 2 ⌝ }
+    ensures { λ s. ⌜ s ≡ edcBit r b ⌝ }
+{
+    let top = (r / 2147483648 + b) % 2;
+    let up = r % 2147483648 * 2;
+    up ^ (top * 0x80000011)
+}
+
+fn wide(x: u8) -> u32
+    ensures { λ r. ⌜ (r ≡ x) × (r < 256) ⌝ }
+{
+    x as u32
+}
+
+fn edc_byte(r: u32, x: u8) -> u32
+    ensures { λ s. ⌜ s ≡ edcBits r x 8 ⌝ }
+{
+    let w = wide(x);
+    let a = edc_bit(r, w / 128 % 2);
+    let b = edc_bit(a, w / 64 % 2);
+    let c = edc_bit(b, w / 32 % 2);
+    let d = edc_bit(c, w / 16 % 2);
+    let e = edc_bit(d, w / 8 % 2);
+    let f = edc_bit(e, w / 4 % 2);
+    let g = edc_bit(f, w / 2 % 2);
+    edc_bit(g, w % 2)
+}
+
+fn edc_number(xs: &[u8]) -> u32
+    ensures { λ r. ⌜ r ≡ edcFrom 0 (now (xs .entry)) ⌝ }
+{
+    let mut r: u32 = 0;
+    let mut i: usize = 0;
+    while i < xs.len() {
+        r = edc_byte(r, xs[i]);
+        i += 1;
+    }
+    r
+}
+
+fn byte(n: u32) -> u8
+    ensures { λ r. ⌜ r ≡ n % 256 ⌝ }
+{
+    (n % 256) as u8
+}
+
+// EDC of the bytes before it.
+fn edc(xs: &[u8]) -> [u8; 4]
+    ensures { λ r. ⌜ r ≡ edcOf (now (xs .entry)) ⌝ }
+{
+    let r = edc_number(xs);
+    [byte(r / 16777216), byte(r / 65536), byte(r / 256), byte(r)]
+}
+
+// ---- the Data Frame (clause 16)
+
+// ID, IED and CPR_MAI.
+fn head(t: &[u8; 768], info: u8, n: u32) -> [u8; 12]
+    requires { ⌜ LogTable (now t) ⌝ }
+    ensures { λ r. ⌜ r ≡ headOf info n ⌝ }
+{
+    let a = byte(n / 65536);
+    let b = byte(n / 256);
+    let c = byte(n);
+    let id = [info, a, b, c];
+    let e = reedsolomon::parity2_with(t, &id);
+    let x = e[0];
+    let y = e[1];
+    [info, a, b, c, x, y, 0, 0, 0, 0, 0, 0]
+}
+
+// A part copied into a frame.
+fn put_at(s: &[u8], at: usize, f: &mut [u8])
+    requires { ⌜ at + length (now s) ≤ length (now f) ⌝ }
+    ensures { λ r. ⌜ now (f .exit) ≡ paste (now (f .entry)) at (now (s .entry)) (length (now (s .entry))) ⌝ }
+{
+    let mut i: usize = 0;
+    while i < s.len() {
+        f[at + i] = s[i];
+        i += 1;
+    }
+}
+
+// The Data Frame of sector n over its 2,048 main data bytes.
+pub fn data_frame(t: &[u8; 768], d: &[u8], info: u8, n: u32) -> [u8; 2064]
+    requires { ⌜ LogTable (now t) × (length (now d) ≡ 2048) ⌝ }
+    ensures { λ r. ⌜ r ≡ dataFrame (now (d .entry)) info n ⌝ }
+{
+    let h = head(t, info, n);
+    let mut f = [0u8; 2064];
+    put_at(&h, 0, &mut f);
+    put_at(d, 12, &mut f);
+    let e = edc(&f[0..2060]);
+    put_at(&e, 2060, &mut f);
+    f
+}
+
+// ---- the way back
+
+// The number of the sector, from its frame's ID.
+pub fn sector_number(f: &[u8; 2064]) -> u32
+    ensures { λ r. ⌜ r ≡ numberOf (now (f .entry)) ⌝ }
+{
+    wide(f[1]) * 65536 + wide(f[2]) * 256 + wide(f[3])
+}
+
+// A frame as it was before scrambling.
+pub fn unscramble(f: [u8; 2064]) -> [u8; 2064]
+    ensures { λ r. ⌜ r ≡ unscrambled f ⌝ }
+{
+    let n = sector_number(&f);
+    scramble(f, n)
+}
+
+fn agrees(xs: &[u8], ys: &[u8]) -> bool
+    requires { ⌜ length (now xs) ≡ length (now ys) ⌝ }
+    ensures { λ r. ⌜ r ≡ agree (now (xs .entry)) (now (ys .entry)) ⌝ }
+{
+    let mut i: usize = 0;
+    while i < xs.len() {
+        if xs[i] != ys[i] {
+            return false;
+        }
+        i += 1;
+    }
+    true
+}
+
+// Check 4.
+fn ied_passes(t: &[u8; 768], f: &[u8]) -> bool
+    requires { ⌜ LogTable (now t) × (length (now f) ≡ 2064) ⌝ }
+    ensures { λ r. ⌜ r ≡ iedPasses (now (f .entry)) ⌝ }
+{
+    let p = reedsolomon::parity2_with(t, &f[0..4]);
+    agrees(&f[4..6], &p)
+}
+
+fn first_passes(n: u32, k: u32) -> bool
+    ensures { λ r. ⌜ r ≡ (not (eqb k 0) || eqb (n % 16) 0) ⌝ }
+{
+    if k != 0 {
+        return true;
+    }
+    if n % 16 != 0 {
+        return false;
+    }
+    true
+}
+
+// Check 5 of frame k, where frame 0 has the number first and the Sector Information info.
+fn id_passes(f: &[u8; 2064], first: u32, info: u8, k: u32) -> bool
+    ensures { λ r. ⌜ r ≡ idPasses first info k (now (f .entry)) ⌝ }
+{
+    let n = sector_number(f);
+    if !first_passes(n, k) {
+        return false;
+    }
+    if n < k {
+        return false;
+    }
+    if n - k != first {
+        return false;
+    }
+    let i = f[0];
+    if i & 0xD2 != 0 {
+        return false;
+    }
+    if i != info {
+        return false;
+    }
+    true
+}
+
+// Check 6.
+fn edc_passes(f: [u8; 2064]) -> bool
+    ensures { λ r. ⌜ r ≡ edcPasses f ⌝ }
+{
+    let g = unscramble(f);
+    let e = edc(&g[0..2060]);
+    agrees(&f[2060..2064], &e)
+}
+
+// The checks 4, 5 and 6 of frame k, as it was read: the lowest number that applies.
+pub fn check_frame(t: &[u8; 768], f: [u8; 2064], first: u32, info: u8, k: u32) -> FrameCheck
+    requires { ⌜ LogTable (now t) ⌝ }
+    ensures { λ r. ⌜ checkNumber r ≡ frameRefusal first info k f ⌝ }
+{
+    if !ied_passes(t, &f) {
+        return FrameCheck::IedDiffers;
+    }
+    if !id_passes(&f, first, info, k) {
+        return FrameCheck::IdWrong;
+    }
+    if !edc_passes(f) {
+        return FrameCheck::EdcDiffers;
+    }
+    FrameCheck::Passed
+}
+
+// Document 01's number of an answer, 0 where nothing is refused.
+pub fn check_number(c: FrameCheck) -> u8
+    ensures { λ r. ⌜ r ≡ checkNumber c ⌝ }
+{
+    match c {
+        FrameCheck::Passed => 0,
+        FrameCheck::IedDiffers => 4,
+        FrameCheck::IdWrong => 5,
+        FrameCheck::EdcDiffers => 6,
+    }
+}
