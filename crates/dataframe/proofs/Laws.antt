@@ -44,8 +44,10 @@ module _ (d : List ℕ) (info n : ℕ) (len : length d ≡ 2048) where
     where
       size : length (drop 2060 frame) ≡ 4
       size = length-drop 2060 frame ∙ ap (λ (x : ℕ). x - 2060) frame-length
+
       size₂ : length (drop 2060 (dataFrame d info n)) ≡ 4
       size₂ = length-drop 2060 (dataFrame d info n) ∙ ap (λ (x : ℕ). x - 2060) (data-length d info n len)
+
       each : (i : ℕ) → i < 4 → getD (drop 2060 frame) i 0 ≡ getD (drop 2060 (dataFrame d info n)) i 0
       each i l =
           getD-drop 2060 frame i 0 ∙ getD-tabulate (scrambledAt n (dataFrame d info n)) 2064 (2060 + i) (omega arith)
@@ -57,6 +59,7 @@ module _ (d : List ℕ) (info n : ℕ) (len : length d ≡ 2048) where
     where
       size : length (take m (drop s frame)) ≡ m
       size = length-take-le m (drop s frame) (rw length-drop (omega (arith, frame-length)))
+
       each : (i : ℕ) → i < m → getD (take m (drop s frame)) i 0 ≡ getD xs i 0
       each i k = getD-take m (drop s frame) i 0 k ∙ getD-drop s frame i 0 ∙ frame-head (s + i) (omega arith) ∙ h i k
 
@@ -119,15 +122,19 @@ frame-passes d first info k len sixteen small plain =
   where
     f : List ℕ
     f = scrambled (first + k) (dataFrame d info (first + k))
+
     number : numberOf f ≡ first + k
     number = frame-number d info (first + k) len small
+
     info-is : infoOf f ≡ info
     info-is = frame-info d info (first + k) len
+
     first-is : (b : Bool) → eqb k 0 ≡ b → (not (eqb k 0) || eqb (numberOf f % 16) 0) ≡ true
     first-is true e =
         let z : k ≡ 0 = eqb-true k 0 e in
         rw (eq-eqb (numberOf f % 16) 0 (omega (arith, number))) (or-true (not (eqb k 0)))
     first-is false e = rw e
+
     id : idPasses first info k f ≡ true
     id =
         rw (first-is (eqb k 0) refl, eq-eqb (numberOf f) (first + k) number, ap isPermitted info-is ∙ plain)

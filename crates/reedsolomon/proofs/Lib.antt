@@ -9,3 +9,4 @@ pub mod Values
 pub mod Mended
 pub mod Loops
 pub mod Shift
+pub mod Decision

@@ -1,8 +1,24 @@
 // Reed-Solomon codes over GF(256): the inner code of 182 bytes with 10 roots and the outer code of 208 bytes with 16 (ECMA-268, clause 18).
+mod column;
 mod locate;
 mod mend;
+mod parity;
+mod row;
 mod search;
 mod syndromes;
+
+pub use column::Column;
+pub use column::correct_column;
+pub use column::correct_column_with;
+pub use parity::parity2;
+pub use parity::parity2_with;
+pub use parity::parity10;
+pub use parity::parity10_with;
+pub use parity::parity16;
+pub use parity::parity16_with;
+pub use row::Row;
+pub use row::correct_row;
+pub use row::correct_row_with;
 
 // What became of a word: it was a code word; it is one now; there is none near enough (document 01: unchanged, changed, past help).
 pub enum Outcome {
@@ -10,12 +26,3 @@ pub enum Outcome {
     Corrected,
     Uncorrectable,
 }
-
-mod parity;
-
-pub use parity::parity2;
-pub use parity::parity2_with;
-pub use parity::parity10;
-pub use parity::parity10_with;
-pub use parity::parity16;
-pub use parity::parity16_with;

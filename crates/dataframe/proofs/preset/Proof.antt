@@ -23,7 +23,7 @@ array-read-result c = search needs
 
 returns : tie.Need-returns
 unfolding presetOf
-returns c = 
+returns c =
     let e = ap (λ (t : List ℕ). getD t (c .before .args .n / 16 % 16) 0) (c .preset-values .ensures) in
     (e, subst (λ (x : ℕ). x < 32768) (sym e) (preset-lt (c .before .args .n)))
 

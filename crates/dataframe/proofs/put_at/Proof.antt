@@ -40,8 +40,8 @@ loop-again c =
       omega arith,
       length-set (l .f) (a .at + l .i) (getD (a .s .now) (l .i) 0) ∙ l .inv .1,
       ap (λ (x : List ℕ). set x (a .at + l .i) (getD (a .s .now) (l .i) 0)) (l .inv .2)
-      ∙ paste-suc (a .f .now) (a .at) (a .s .now) (l .i) 0 (omega arith) (omega arith)
-      ∙ ap (paste (a .f .now) (a .at) (a .s .now)) (sym (add-one (l .i))),
+          ∙ paste-suc (a .f .now) (a .at) (a .s .now) (l .i) 0 (omega arith) (omega arith)
+          ∙ ap (paste (a .f .now) (a .at) (a .s .now)) (sym (add-one (l .i))),
     )
 
 same-length : tie.Need-same-length Inv-loop μ-loop
