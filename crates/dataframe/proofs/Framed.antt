@@ -9,8 +9,8 @@ use lib.ListN.{length, getD, take, drop, replicate, length-append, length-drop, 
 use lib.Seq.{drop-cons, getD-append-add, take-all, take-at, drop-at, length-take-le, paste, length-paste, take-paste, drop-paste}
 use Rattle.lists.specs.Bytes.{Bytes}
 use Rattle.lists.proofs.Bytes.{append-bytes, zeros-bytes}
-use Rattle.reedsolomon.specs.Parity.{parity}
-use Rattle.reedsolomon.proofs.Division.{two-roots, parity-length, parity-bytes}
+use Rattle.codes.specs.Parity.{parity}
+use Rattle.codes.proofs.Division.{two-roots, parity-length, parity-bytes}
 use Rattle.dataframe.specs.Frame.{idOf, iedOf, cprMai, headOf, edcBits, edcFrom, fourBytes, edcOf, dataFrame}
 
 -- ---- EDC, byte by byte

@@ -1,12 +1,2 @@
-pub mod Vandermonde
-pub mod Words
-pub mod KeyEquation
-pub mod Division
-pub mod Nearest
-pub mod Roots
-pub mod Elimination
-pub mod Values
-pub mod Mended
 pub mod Loops
 pub mod Shift
-pub mod Decision

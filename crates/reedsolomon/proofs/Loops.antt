@@ -15,7 +15,7 @@ use Rattle.lists.specs.Fill.{tabulate}
 use Rattle.lists.proofs.Fill.{length-tabulate, getD-tabulate}
 use Rattle.field.specs.Field.{add, mul, pow}
 use Rattle.field.proofs.Field.{add-assoc, add-zero, zero-add, mul-zero}
-use Rattle.reedsolomon.specs.Decoding.{at, dot, polyAt, Stored, without, withoutOthers, spread, errorValue, change, mendFrom}
+use Rattle.codes.specs.Decoding.{at, dot, polyAt, Stored, without, withoutOthers, spread, errorValue, change, mendFrom}
 
 -- ---- a key equation, from the front on
 

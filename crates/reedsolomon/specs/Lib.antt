@@ -1,4 +1,0 @@
-pub mod Word
-pub mod Parity
-pub mod Nearest
-pub mod Decoding

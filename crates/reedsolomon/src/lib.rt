@@ -7,6 +7,7 @@ mod row;
 mod search;
 mod syndromes;
 
+pub use codes::Outcome;
 pub use column::Column;
 pub use column::correct_column;
 pub use column::correct_column_with;
@@ -19,10 +20,3 @@ pub use parity::parity16_with;
 pub use row::Row;
 pub use row::correct_row;
 pub use row::correct_row_with;
-
-// What became of a word: it was a code word; it is one now; there is none near enough (document 01: unchanged, changed, past help).
-pub enum Outcome {
-    Clean,
-    Corrected,
-    Uncorrectable,
-}

@@ -4,7 +4,7 @@ ghost use mathlib.Core.Path.{_≡_};
 ghost use Prim.Native.Nat.{ℕ, _+_, _-_, _*_, _<_, _≤_};
 ghost use lib.ListN.{length, replicate};
 ghost use Rattle.field.specs.Tables.{LogTable};
-ghost use Rattle.reedsolomon.specs.Decoding.{at, dot, mix, unit, Locator, Pivots, Candidate, Cleared, Stored};
+ghost use Rattle.codes.specs.Decoding.{at, dot, mix, unit, Locator, Pivots, Candidate, Cleared, Stored};
 
 // c 0 * s i + c 1 * s (i + 1) + ..: 0 where the key equation i holds of c.
 fn equation(t: &[u8; 768], c: &[u8], s: &[u8], i: usize) -> u8

@@ -4,7 +4,7 @@ ghost use Prim.Native.Nat.{ℕ, _<_, _≤_};
 ghost use lib.ListN.{length, getD};
 ghost use Rattle.lists.specs.Fill.{tabulate};
 ghost use Rattle.field.specs.Tables.{LogTable};
-ghost use Rattle.reedsolomon.specs.Decoding.{at, without, errorValue, mended};
+ghost use Rattle.codes.specs.Decoding.{at, without, errorValue, mended};
 
 fn index(x: u8) -> usize
     ensures { λ r. ⌜ r ≡ x ⌝ }

@@ -4,7 +4,7 @@ ghost use mathlib.Core.Path.{_≡_};
 ghost use Prim.Native.Nat.{_<_};
 ghost use lib.ListN.{length};
 ghost use Rattle.field.specs.Tables.{LogTable};
-ghost use Rattle.reedsolomon.specs.Parity.{shiftIn, remainder, generatorTail, parity};
+ghost use Rattle.codes.specs.Parity.{shiftIn, remainder, generatorTail, parity};
 
 // One byte more of a word: the register moves up by one place.
 fn shift_in(t: &[u8; 768], g: &[u8], reg: &mut [u8], b: u8)

@@ -4,10 +4,10 @@ ghost use Prim.Native.Nat.{ℕ, _<_, _≤_};
 ghost use lib.ListN.{getD, take};
 ghost use Rattle.lists.specs.Fill.{tabulate};
 ghost use Rattle.field.specs.Tables.{LogTable};
-ghost use Rattle.reedsolomon.specs.Word.{syndrome};
-ghost use Rattle.reedsolomon.specs.Nearest.{nearest, outcomeOf};
-ghost use Rattle.reedsolomon.specs.Decoding.{at, Locator, NonZero, rootPlaces, mended};
-use crate::Outcome;
+ghost use Rattle.codes.specs.Word.{syndrome};
+ghost use Rattle.codes.specs.Nearest.{nearest, outcomeOf};
+ghost use Rattle.codes.specs.Decoding.{at, Locator, NonZero, rootPlaces, mended};
+use codes::Outcome;
 
 // A row and what became of it. It goes in by value and its tally comes back with it (document 01).
 pub struct Row {

@@ -3,7 +3,7 @@ ghost use mathlib.Core.Path.{_≡_};
 ghost use Prim.Native.Nat.{_+_, _≤_};
 ghost use lib.ListN.{length, take};
 ghost use Rattle.field.specs.Tables.{LogTable};
-ghost use Rattle.reedsolomon.specs.Decoding.{polyAt, rootPlaces, NonZero};
+ghost use Rattle.codes.specs.Decoding.{polyAt, rootPlaces, NonZero};
 
 // The value of a polynomial, lowest coefficient first.
 fn poly_value(t: &[u8; 768], c: &[u8], x: u8) -> u8

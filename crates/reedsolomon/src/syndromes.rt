@@ -6,7 +6,7 @@ ghost use lib.ListN.{length, getD};
 ghost use Rattle.lists.specs.Fill.{tabulate};
 ghost use Rattle.lists.specs.Test.{below};
 ghost use Rattle.field.specs.Tables.{LogTable};
-ghost use Rattle.reedsolomon.specs.Word.{valueAt, syndrome};
+ghost use Rattle.codes.specs.Word.{valueAt, syndrome};
 
 // The value of a word at x.
 fn value_of(t: &[u8; 768], w: &[u8], x: u8) -> u8

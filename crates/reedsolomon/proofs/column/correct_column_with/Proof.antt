@@ -7,8 +7,8 @@ use mir.Val.{Fits}
 use mir.Syntax.{w8}
 use Rattle.lists.specs.Bytes.{Bytes}
 use Rattle.lists.proofs.Bytes.{bytes-of}
-use Rattle.reedsolomon.specs.Decoding.{at, Locator, rootPlaces, mended}
-use Rattle.reedsolomon.proofs.Decision.{clean, corrected, uncorrectable, places-below}
+use Rattle.codes.specs.Decoding.{at, Locator, rootPlaces, mended}
+use Rattle.codes.proofs.Decision.{clean, corrected, uncorrectable, places-below}
 use native.Mathlib.Omega.{arith}
 use borrow.Author.Needs.{needs}
 use Rattle.reedsolomon.proofs.column.correct_column_with.Statement.{statement}

@@ -5,8 +5,8 @@ use Prim.Native.Nat.{ℕ, _+_, _-_, _<_, _≤_}
 use lib.ListN.{length, getD, drop}
 use Rattle.field.specs.Field.{add, mul, pow}
 use Rattle.lists.proofs.Fill.{Upto, upto-none, upto-more, upto-all, tabulate-self}
-use Rattle.reedsolomon.specs.Decoding.{mix}
-use Rattle.reedsolomon.proofs.Elimination.{mix-length, mix-at}
+use Rattle.codes.specs.Decoding.{mix}
+use Rattle.codes.proofs.Elimination.{mix-length, mix-at}
 use native.Mathlib.Omega.{arith}
 use borrow.Author.Needs.{needs}
 use Rattle.reedsolomon.proofs.locate.add_multiple.Statement.{statement}

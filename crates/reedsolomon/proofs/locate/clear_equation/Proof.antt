@@ -5,8 +5,8 @@ use Prim.Native.Nat.{ℕ, _+_, _-_, _*_, _<_, _≤_}
 use lib.ListN.{length, getD, take, drop}
 use Rattle.field.specs.Field.{add, mul, pow, inverse}
 use mathlib.Core.Bool.{true}
-use Rattle.reedsolomon.specs.Decoding.{at, dot, Cleared}
-use Rattle.reedsolomon.proofs.Elimination.{cleared-holds, cleared-kept, cleared-mixed}
+use Rattle.codes.specs.Decoding.{at, dot, Cleared}
+use Rattle.codes.proofs.Elimination.{cleared-holds, cleared-kept, cleared-mixed}
 use native.Mathlib.Omega.{arith}
 use borrow.Author.Needs.{needs}
 use Rattle.reedsolomon.proofs.locate.clear_equation.Statement.{statement}

@@ -6,8 +6,8 @@ use lib.ListN.{length, getD, take, drop}
 use Rattle.field.specs.Field.{add, mul, pow, inverse}
 use mathlib.Core.Bool.{Bool, true, false, true≢false, false≢true}
 use borrow.Author.Tests.{not-true, not-false}
-use Rattle.reedsolomon.specs.Decoding.{at, Pivots, Candidate, Cleared}
-use Rattle.reedsolomon.proofs.Elimination.{fits-part, cleared-next}
+use Rattle.codes.specs.Decoding.{at, Pivots, Candidate, Cleared}
+use Rattle.codes.proofs.Elimination.{fits-part, cleared-next}
 use native.Mathlib.Omega.{arith}
 use borrow.Author.Needs.{needs}
 use Rattle.reedsolomon.proofs.locate.clear_equations.Statement.{statement}

@@ -4,8 +4,8 @@ use mathlib.Core.List.{List, [], _∷_, _++_}
 use Prim.Native.Nat.{ℕ, _+_, _-_, _*_, _<_, _≤_}
 use lib.ListN.{length, getD, length-replicate}
 use Rattle.field.specs.Field.{add, mul, pow, inverse}
-use Rattle.reedsolomon.specs.Decoding.{at, unit, Pivots}
-use Rattle.reedsolomon.proofs.Elimination.{pivots-none, pivots-few, reduced, locates}
+use Rattle.codes.specs.Decoding.{at, unit, Pivots}
+use Rattle.codes.proofs.Elimination.{pivots-none, pivots-few, reduced, locates}
 use native.Mathlib.Omega.{arith}
 use borrow.Author.Needs.{needs}
 use Rattle.reedsolomon.proofs.locate.locate.Statement.{statement}

@@ -4,7 +4,7 @@ use mathlib.Core.List.{List}
 use Prim.Native.Nat.{ℕ, _+_, _-_, _<_, _≤_}
 use lib.ListN.{length, getD, drop}
 use Rattle.field.specs.Field.{add, mul, pow}
-use Rattle.reedsolomon.specs.Decoding.{Stored}
+use Rattle.codes.specs.Decoding.{Stored}
 use Rattle.reedsolomon.proofs.Loops.{Storing, storing-none, storing-more, storing-all}
 use native.Mathlib.Omega.{arith}
 use borrow.Author.Needs.{needs}

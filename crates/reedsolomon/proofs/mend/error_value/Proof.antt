@@ -6,7 +6,7 @@ use lib.ListN.{length, getD, take, drop}
 use Rattle.field.specs.Field.{add, mul, pow, inverse}
 use mathlib.Core.Logic.{⊎-elim}
 use Rattle.lists.proofs.Fill.{length-tabulate}
-use Rattle.reedsolomon.specs.Decoding.{at, without, withoutOthers, spread, errorValue}
+use Rattle.codes.specs.Decoding.{at, without, withoutOthers, spread, errorValue}
 use Rattle.reedsolomon.proofs.Loops.{others-skip, spread-skip, spread-take, others-next}
 use native.Mathlib.Omega.{arith}
 use borrow.Author.Needs.{needs}

@@ -4,7 +4,7 @@ use mathlib.Core.List.{List, [], _∷_, _++_}
 use Prim.Native.Nat.{ℕ, suc, _+_, _-_, _*_, _<_, _≤_}
 use lib.ListN.{length, getD, set, length-set}
 use Rattle.field.specs.Field.{add, mul, pow, inverse}
-use Rattle.reedsolomon.specs.Decoding.{at, errorValue, change, mendFrom, mended}
+use Rattle.codes.specs.Decoding.{at, errorValue, change, mendFrom, mended}
 use Rattle.reedsolomon.proofs.Loops.{mend-next, mend-end}
 use native.Mathlib.Omega.{arith}
 use borrow.Author.Needs.{needs}

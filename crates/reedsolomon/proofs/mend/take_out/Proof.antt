@@ -7,7 +7,7 @@ use Rattle.field.specs.Field.{add, mul, pow}
 use Rattle.lists.proofs.Fill.{Upto, upto-none, upto-more, upto-all}
 use native.Mathlib.Numerals.{add-one}
 use Rattle.field.proofs.Field.{zero-add}
-use Rattle.reedsolomon.specs.Decoding.{at, without}
+use Rattle.codes.specs.Decoding.{at, without}
 use native.Mathlib.Omega.{arith}
 use borrow.Author.Needs.{needs}
 use Rattle.reedsolomon.proofs.mend.take_out.Statement.{statement}

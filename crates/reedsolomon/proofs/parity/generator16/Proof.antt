@@ -1,7 +1,7 @@
 -- `reedsolomon::parity::generator16` meets its contract: the product of the 16 factors x + α^i, computed. Assumes nothing.
 use mathlib.Core.Path.{refl}
 use Rattle.field.specs.Field.{add, double, mulBits, mul, square, powHalves, pow}
-use Rattle.reedsolomon.specs.Parity.{addWords, timesRoot, generator}
+use Rattle.codes.specs.Parity.{addWords, timesRoot, generator}
 use Rattle.reedsolomon.proofs.parity.generator16.Statement.{statement}
 use Rattle.reedsolomon.proofs.parity.generator16.Tie as tie
 

@@ -1,6 +1,6 @@
 -- `reedsolomon::parity::parity10_with` meets its contract: the remainder by generator 10 from a register of zeros. Assumes nothing.
 use borrow.Author.Needs.{needs}
-use Rattle.reedsolomon.specs.Parity.{parity}
+use Rattle.codes.specs.Parity.{parity}
 use Rattle.reedsolomon.proofs.parity.parity10_with.Statement.{statement}
 use Rattle.reedsolomon.proofs.parity.parity10_with.Tie as tie
 

@@ -1,6 +1,6 @@
 -- `reedsolomon::parity::parity2_with` meets its contract: the remainder by generator 2 from a register of zeros. Assumes nothing.
 use borrow.Author.Needs.{needs}
-use Rattle.reedsolomon.specs.Parity.{parity}
+use Rattle.codes.specs.Parity.{parity}
 use Rattle.reedsolomon.proofs.parity.parity2_with.Statement.{statement}
 use Rattle.reedsolomon.proofs.parity.parity2_with.Tie as tie
 

@@ -8,7 +8,7 @@ use native.Mathlib.Omega.{arith}
 use lib.ListN.{length, getD}
 use borrow.Author.Needs.{needs}
 use Rattle.field.specs.Field.{add, mul}
-use Rattle.reedsolomon.specs.Parity.{shiftIn}
+use Rattle.codes.specs.Parity.{shiftIn}
 use Rattle.lists.proofs.Fill.{Upto, upto-none, upto-more, upto-all}
 use Rattle.reedsolomon.proofs.Shift.{shiftAt, shift-is}
 use Rattle.reedsolomon.proofs.parity.shift_in.Statement.{statement}

@@ -4,7 +4,7 @@ use mathlib.Core.List.{List}
 use Prim.Native.Nat.{ℕ, _+_, _-_, _<_, _≤_}
 use lib.ListN.{length, getD, drop}
 use Rattle.field.specs.Field.{add, mul, pow}
-use Rattle.reedsolomon.specs.Decoding.{polyAt}
+use Rattle.codes.specs.Decoding.{polyAt}
 use Rattle.reedsolomon.proofs.Loops.{poly-start, poly-next}
 use native.Mathlib.Omega.{arith}
 use borrow.Author.Needs.{needs}

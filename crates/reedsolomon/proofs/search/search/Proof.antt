@@ -6,8 +6,8 @@ use lib.ListN.{length, getD, set, take, drop, length-set}
 use Rattle.field.specs.Field.{add, mul, pow, inverse}
 use Rattle.lists.specs.Bytes.{Bytes}
 use Rattle.lists.proofs.Bytes.{bytes-of}
-use Rattle.reedsolomon.specs.Decoding.{polyAt, rootPlaces}
-use Rattle.reedsolomon.proofs.Roots.{search-room, search-hit, search-miss}
+use Rattle.codes.specs.Decoding.{polyAt, rootPlaces}
+use Rattle.codes.proofs.Roots.{search-room, search-hit, search-miss}
 use native.Mathlib.Omega.{arith}
 use borrow.Author.Needs.{needs}
 use Rattle.reedsolomon.proofs.search.search.Statement.{statement}

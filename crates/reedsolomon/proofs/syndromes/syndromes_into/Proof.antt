@@ -5,7 +5,7 @@ use Prim.Native.Nat.{ℕ, _+_, _-_, _*_, _<_, _≤_}
 use lib.ListN.{length, getD, take, drop}
 use Rattle.field.specs.Field.{add, mul, pow, inverse}
 use Rattle.lists.proofs.Fill.{Upto, upto-none, upto-more, upto-all}
-use Rattle.reedsolomon.specs.Word.{valueAt, syndrome}
+use Rattle.codes.specs.Word.{valueAt, syndrome}
 use native.Mathlib.Omega.{arith}
 use borrow.Author.Needs.{needs}
 use Rattle.reedsolomon.proofs.syndromes.syndromes_into.Statement.{statement}

@@ -4,8 +4,8 @@ use mathlib.Core.List.{List}
 use Prim.Native.Nat.{ℕ, _+_, _-_, _<_, _≤_}
 use lib.ListN.{length, getD, drop}
 use Rattle.field.specs.Field.{add, mul, pow}
-use Rattle.reedsolomon.specs.Word.{valueFrom, valueAt}
-use Rattle.reedsolomon.proofs.Words.{valueFrom-next, valueFrom-end}
+use Rattle.codes.specs.Word.{valueFrom, valueAt}
+use Rattle.codes.proofs.Words.{valueFrom-next, valueFrom-end}
 use native.Mathlib.Omega.{arith}
 use borrow.Author.Needs.{needs}
 use Rattle.reedsolomon.proofs.syndromes.value_of.Statement.{statement}

@@ -16,8 +16,8 @@ use Rattle.field.specs.Field.{add, mul, pow, inverse}
 use Rattle.field.proofs.Field.{add-self, add-zero, zero-add, eq-of-add, add-comm, add-lt, mul-assoc, mul-comm, mul-zero, zero-mul, mul-one, mul-lt, zero-of-mul}
 use Rattle.field.proofs.Powers.{pow-zero, alpha-lt, powers-differ}
 use Rattle.field.proofs.Inverse.{mul-inverse}
-use Rattle.reedsolomon.specs.Decoding.{without, withoutOthers, spread, errorValue, rootPlaces, polyAt}
-use Rattle.reedsolomon.proofs.Vandermonde.{Err, sum, All, Small, All-map, less, sum-less, sum-zeros}
+use Rattle.codes.specs.Decoding.{without, withoutOthers, spread, errorValue, rootPlaces, polyAt}
+use Rattle.codes.proofs.Vandermonde.{Err, sum, All, Small, All-map, less, sum-less, sum-zeros}
 
 -- ---- places that fall
 

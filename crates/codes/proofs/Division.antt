@@ -13,11 +13,11 @@ use Rattle.lists.specs.Test.{below}
 use Rattle.lists.specs.Bytes.{Bytes}
 use Rattle.lists.proofs.Test.{below-at}
 use Rattle.lists.proofs.Bytes.{append-bytes, zeros-bytes}
-use Rattle.reedsolomon.specs.Word.{valueFrom, valueAt, syndrome}
-use Rattle.reedsolomon.specs.Parity.{addWords, shiftIn, remainder, timesRoot, generator, generatorTail, parity}
+use Rattle.codes.specs.Word.{valueFrom, valueAt, syndrome}
+use Rattle.codes.specs.Parity.{addWords, shiftIn, remainder, timesRoot, generator, generatorTail, parity}
 use Rattle.field.proofs.Field.{add-assoc, add-comm, add-left-comm, add-self, add-zero, zero-add, add-cancel, add-lt, add-mul, mul-add, mul-assoc, mul-comm, mul-left-comm, mul-zero, zero-mul, mul-lt}
 use Rattle.field.proofs.Powers.{pow-suc, pow-lt}
-use Rattle.reedsolomon.proofs.Words.{IsCode, two, valueFrom-add, valueFrom-power, valueFrom-lt, addWords-length, addWords-bytes}
+use Rattle.codes.proofs.Words.{IsCode, two, valueFrom-add, valueFrom-power, valueFrom-lt, addWords-length, addWords-bytes}
 
 pub valueFrom-append : (x v : ℕ) (r s : List ℕ) → valueFrom x v (r ++ s) ≡ valueFrom x (valueFrom x v r) s
 unfolding valueFrom

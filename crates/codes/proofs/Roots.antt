@@ -15,7 +15,7 @@ use Rattle.lists.specs.Bytes.{Bytes}
 use Rattle.field.specs.Field.{add, mul, pow}
 use Rattle.field.proofs.Field.{add-assoc, add-comm, add-left-comm, add-zero, zero-add, add-cancel, eq-of-add, add-lt, add-mul, mul-add, mul-left-comm, mul-zero, mul-lt, zero-of-mul}
 use Rattle.field.proofs.Powers.{alpha-lt, powers-differ}
-use Rattle.reedsolomon.specs.Decoding.{polyAt, rootPlaces, NonZero}
+use Rattle.codes.specs.Decoding.{polyAt, rootPlaces, NonZero}
 
 -- ---- division by x + a
 

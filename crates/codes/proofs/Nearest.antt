@@ -16,12 +16,12 @@ use Rattle.lists.proofs.Test.{and-left, and-right, truth}
 use Rattle.lists.proofs.Count.{distance-self}
 use Rattle.field.specs.Field.{add}
 use Rattle.field.proofs.Field.{add-self, eq-of-add}
-use Rattle.reedsolomon.specs.Word.{isCode}
-use Rattle.reedsolomon.specs.Parity.{addWords}
-use Rattle.reedsolomon.specs.Nearest.{preceded, allWords, firstOf, isNear, nearest, outcomeOf}
-use Rattle.reedsolomon.specs.declared.Outcome.{Outcome}
-use Rattle.reedsolomon.specs.declared.Outcome.the-variants.{Clean, Corrected, Uncorrectable}
-use Rattle.reedsolomon.proofs.Words.{IsCode, code-of-test, test-of-code, ifNonzero, weight, unique, triangle}
+use Rattle.codes.specs.Word.{isCode}
+use Rattle.codes.specs.Parity.{addWords}
+use Rattle.codes.specs.Nearest.{preceded, allWords, firstOf, isNear, nearest, outcomeOf}
+use Rattle.codes.specs.declared.Outcome.{Outcome}
+use Rattle.codes.specs.declared.Outcome.the-variants.{Clean, Corrected, Uncorrectable}
+use Rattle.codes.proofs.Words.{IsCode, code-of-test, test-of-code, ifNonzero, weight, unique, triangle}
 
 -- ---- the distance is the weight of the sum
 

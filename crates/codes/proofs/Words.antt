@@ -17,11 +17,11 @@ use Rattle.lists.specs.Test.{below}
 use Rattle.lists.specs.Bytes.{Bytes}
 use Rattle.lists.specs.Count.{bit, distance}
 use Rattle.lists.proofs.Test.{below-at, below-all, truth-of}
-use Rattle.reedsolomon.specs.Word.{valueFrom, valueAt, syndrome, isCode}
-use Rattle.reedsolomon.specs.Parity.{addWords}
+use Rattle.codes.specs.Word.{valueFrom, valueAt, syndrome, isCode}
+use Rattle.codes.specs.Parity.{addWords}
 use Rattle.field.proofs.Field.{add-assoc, add-comm, add-left-comm, add-self, add-swap, add-zero, zero-add, add-cancel, eq-of-add, add-lt, add-mul, mul-add, mul-assoc, mul-comm, mul-left-comm, mul-zero, zero-mul, mul-one, mul-lt, zero-of-mul}
 use Rattle.field.proofs.Powers.{pow-zero, pow-suc, pow-lt, pow-swap, powers-differ}
-use Rattle.reedsolomon.proofs.Vandermonde.{Err, sum, All, Small, Distinct, vandermonde}
+use Rattle.codes.proofs.Vandermonde.{Err, sum, All, Small, Distinct, vandermonde}
 
 -- ---- definitions for the proofs
 

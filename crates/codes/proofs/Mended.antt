@@ -18,15 +18,15 @@ use Rattle.lists.proofs.Count.{bit-le, distance-self}
 use Rattle.field.specs.Field.{add, mul, pow, inverse}
 use Rattle.field.proofs.Field.{add-zero, zero-add, add-cancel, add-lt, mul-lt, zero-mul, zero-of-mul}
 use Rattle.field.proofs.Powers.{alpha-lt}
-use Rattle.reedsolomon.specs.Word.{syndrome}
-use Rattle.reedsolomon.specs.Parity.{addWords}
-use Rattle.reedsolomon.specs.Decoding.{dot, polyAt, Locator, rootPlaces, withoutOthers, spread, errorValue, change, mendFrom, mended}
-use Rattle.reedsolomon.proofs.Vandermonde.{Err, sum, All, Small, Distinct}
-use Rattle.reedsolomon.proofs.Words.{IsCode, weight, errs, syndrome-cons, syndrome-nil, syndrome-errs, errs-length, errs-small, errs-distinct, syndrome-add, addWords-length, addWords-bytes}
-use Rattle.reedsolomon.proofs.KeyEquation.{roots}
-use Rattle.reedsolomon.proofs.Roots.{polyAt-lt, lead-nonzero, roots-hit, roots-miss, roots-few}
-use Rattle.reedsolomon.proofs.Values.{Descending, roots-descending, value-right}
-use Rattle.reedsolomon.proofs.Nearest.{Near, distance-weight, distance-triangle}
+use Rattle.codes.specs.Word.{syndrome}
+use Rattle.codes.specs.Parity.{addWords}
+use Rattle.codes.specs.Decoding.{dot, polyAt, Locator, rootPlaces, withoutOthers, spread, errorValue, change, mendFrom, mended}
+use Rattle.codes.proofs.Vandermonde.{Err, sum, All, Small, Distinct}
+use Rattle.codes.proofs.Words.{IsCode, weight, errs, syndrome-cons, syndrome-nil, syndrome-errs, errs-length, errs-small, errs-distinct, syndrome-add, addWords-length, addWords-bytes}
+use Rattle.codes.proofs.KeyEquation.{roots}
+use Rattle.codes.proofs.Roots.{polyAt-lt, lead-nonzero, roots-hit, roots-miss, roots-few}
+use Rattle.codes.proofs.Values.{Descending, roots-descending, value-right}
+use Rattle.codes.proofs.Nearest.{Near, distance-weight, distance-triangle}
 
 -- ---- what the search finds in the word of errors
 

@@ -7,9 +7,9 @@ use Prim.Native.Nat.{ℕ, zero, suc}
 use lib.Dec.{leb}
 use lib.ListN.{length}
 use Rattle.lists.specs.Count.{distance}
-use Rattle.reedsolomon.specs.Word.{isCode}
-use Rattle.reedsolomon.specs.declared.Outcome.{Outcome}
-use Rattle.reedsolomon.specs.declared.Outcome.the-variants.{Clean, Corrected, Uncorrectable}
+use Rattle.codes.specs.Word.{isCode}
+use Rattle.codes.specs.declared.Outcome.{Outcome}
+use Rattle.codes.specs.declared.Outcome.the-variants.{Clean, Corrected, Uncorrectable}
 
 -- each word with each of the bytes m-1 .. 0 before it
 unfoldable pub preceded : ℕ → List (List ℕ) → List (List ℕ)

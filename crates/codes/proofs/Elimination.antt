@@ -18,7 +18,7 @@ use Rattle.lists.proofs.Count.{count-le, count-none, count-flip}
 use Rattle.field.specs.Field.{add, mul, inverse}
 use Rattle.field.proofs.Field.{add-assoc, add-left-comm, add-self, add-zero, zero-add, add-lt, add-mul, mul-add, mul-assoc, mul-comm, mul-zero, zero-mul, mul-one, mul-lt}
 use Rattle.field.proofs.Inverse.{mul-inverse}
-use Rattle.reedsolomon.specs.Decoding.{dot, mix, unit, Locator, polyOf, isPivot, Pivots, Candidate, Cleared, Stored}
+use Rattle.codes.specs.Decoding.{dot, mix, unit, Locator, polyOf, isPivot, Pivots, Candidate, Cleared, Stored}
 
 -- ---- one polynomial added to another
 

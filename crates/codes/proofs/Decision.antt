@@ -14,16 +14,16 @@ use Rattle.lists.specs.Fill.{tabulate}
 use Rattle.lists.specs.Test.{below}
 use Rattle.lists.proofs.Fill.{length-tabulate, getD-tabulate}
 use Rattle.lists.proofs.Test.{below-same, truth, truth-of}
-use Rattle.reedsolomon.specs.Word.{syndrome, isCode}
-use Rattle.reedsolomon.specs.Nearest.{nearest, outcomeOf}
-use Rattle.reedsolomon.specs.Decoding.{at, Locator, NonZero, rootPlaces, mended}
-use Rattle.reedsolomon.specs.declared.Outcome.{Outcome}
-use Rattle.reedsolomon.specs.declared.Outcome.the-variants.{Clean, Corrected, Uncorrectable}
-use Rattle.reedsolomon.proofs.Words.{IsCode, code-of-test, test-of-code}
-use Rattle.reedsolomon.proofs.Roots.{roots-few, lead-nonzero}
-use Rattle.reedsolomon.proofs.Values.{roots-descending, descending-at}
-use Rattle.reedsolomon.proofs.Mended.{mended-near, mended-length, mended-bytes, mended-distance}
-use Rattle.reedsolomon.proofs.Nearest.{Near, nearest-none, nearest-near, nearest-code, outcome-clean, outcome-corrected, outcome-uncorrectable}
+use Rattle.codes.specs.Word.{syndrome, isCode}
+use Rattle.codes.specs.Nearest.{nearest, outcomeOf}
+use Rattle.codes.specs.Decoding.{at, Locator, NonZero, rootPlaces, mended}
+use Rattle.codes.specs.declared.Outcome.{Outcome}
+use Rattle.codes.specs.declared.Outcome.the-variants.{Clean, Corrected, Uncorrectable}
+use Rattle.codes.proofs.Words.{IsCode, code-of-test, test-of-code}
+use Rattle.codes.proofs.Roots.{roots-few, lead-nonzero}
+use Rattle.codes.proofs.Values.{roots-descending, descending-at}
+use Rattle.codes.proofs.Mended.{mended-near, mended-length, mended-bytes, mended-distance}
+use Rattle.codes.proofs.Nearest.{Near, nearest-none, nearest-near, nearest-code, outcome-clean, outcome-corrected, outcome-uncorrectable}
 
 -- every entry is 0
 abbrev pub zeros : List ℕ → Bool

@@ -8,10 +8,10 @@ use native.Mathlib.Nat.{not-suc-le-zero, le-of-suc-le-suc}
 use native.Mathlib.Omega.{arith}
 use lib.ListN.{length, length-map}
 use Rattle.field.specs.Field.{add, mul, pow}
-use Rattle.reedsolomon.specs.Decoding.{dot, polyAt}
+use Rattle.codes.specs.Decoding.{dot, polyAt}
 use Rattle.field.proofs.Field.{add-assoc, add-comm, add-left-comm, add-self, add-swap, add-zero, zero-add, add-cancel, eq-of-add, add-lt, add-mul, mul-add, mul-assoc, mul-comm, mul-left-comm, mul-zero, zero-mul, mul-one, one-mul, mul-lt, zero-of-mul}
 use Rattle.field.proofs.Powers.{pow-zero, pow-suc, pow-lt, pow-swap, powers-differ}
-use Rattle.reedsolomon.proofs.Vandermonde.{Err, sum, All, Small, Distinct, vandermonde, sum-zeros, All-map, Distinct-map}
+use Rattle.codes.proofs.Vandermonde.{Err, sum, All, Small, Distinct, vandermonde, sum-zeros, All-map, Distinct-map}
 
 -- ---- every error's locator is a root
 

@@ -1,0 +1,10 @@
+pub mod Vandermonde
+pub mod Words
+pub mod KeyEquation
+pub mod Division
+pub mod Nearest
+pub mod Roots
+pub mod Elimination
+pub mod Values
+pub mod Mended
+pub mod Decision
