@@ -1,24 +1,22 @@
 -- The frame of a sector: it holds its number, its Sector Information and its main data, and it passes every check.
 -- Assumes nothing.
-use mathlib.Core.Path.{_≡_, refl, sym, ap, ap₂, _∙_}
+use mathlib.Core.Path.{_≡_, refl, sym, ap, _∙_}
 use mathlib.Core.Bool.{Bool, true, false, _||_, not}
 use mathlib.Core.List.{List, _++_}
-use Prim.Native.Nat.{ℕ, _+_, _*_, _-_, _/_, _%_, _<_, _≤_}
+use Prim.Native.Nat.{ℕ, _+_, _-_, _/_, _%_, _<_, _≤_}
 use native.Mathlib.Omega.{arith}
 use borrow.Author.Tests.{eqb-true, eq-eqb}
-use lib.Bits.{bitAnd}
 use lib.Dec.{eqb}
-use lib.ListN.{length, getD, take, drop, length-append, length-drop, List·getD-append}
+use lib.ListN.{length, getD, take, drop, length-drop, List·getD-append}
 use lib.Seq.{ext-getD, getD-append-add, getD-take, getD-drop, length-take-le}
-use Rattle.lists.specs.Fill.{tabulate}
 use Rattle.lists.specs.Bytes.{Bytes}
 use Rattle.lists.proofs.Fill.{length-tabulate, getD-tabulate}
 use Rattle.dataframe.specs.Frame.{isPermitted, idOf, iedOf, cprMai, headOf, edcOf, dataFrame}
 use Rattle.dataframe.specs.Scrambling.{scrambledAt, scrambled}
 use Rattle.dataframe.specs.Checks.{infoOf, numberOf, unscrambled, mainOf, iedPasses, idPasses, edcPasses, frameRefusal}
 use Rattle.dataframe.proofs.Scrambled.{scrambled-head, scrambled-end, scrambled-bytes, scrambled-twice}
-use Rattle.dataframe.proofs.Framed.{id-length, ied-length, head-length, data-length, data-bytes, data-head, data-front, data-edc, data-main}
-use Rattle.dataframe.proofs.Checked.{agree-same, id-passes, refusal-none}
+use Rattle.dataframe.proofs.Framed.{id-length, ied-length, data-length, data-bytes, data-head, data-front, data-edc, data-main}
+use Rattle.dataframe.proofs.Checked.{agree-same, refusal-none}
 
 or-true : (b : Bool) → (b || true) ≡ true
 or-true true = refl
@@ -44,8 +42,10 @@ module _ (d : List ℕ) (info n : ℕ) (len : length d ≡ 2048) where
     where
       size : length (drop 2060 frame) ≡ 4
       size = length-drop 2060 frame ∙ ap (λ (x : ℕ). x - 2060) frame-length
+
       size₂ : length (drop 2060 (dataFrame d info n)) ≡ 4
       size₂ = length-drop 2060 (dataFrame d info n) ∙ ap (λ (x : ℕ). x - 2060) (data-length d info n len)
+
       each : (i : ℕ) → i < 4 → getD (drop 2060 frame) i 0 ≡ getD (drop 2060 (dataFrame d info n)) i 0
       each i l =
           getD-drop 2060 frame i 0 ∙ getD-tabulate (scrambledAt n (dataFrame d info n)) 2064 (2060 + i) (omega arith)
@@ -57,6 +57,7 @@ module _ (d : List ℕ) (info n : ℕ) (len : length d ≡ 2048) where
     where
       size : length (take m (drop s frame)) ≡ m
       size = length-take-le m (drop s frame) (rw length-drop (omega (arith, frame-length)))
+
       each : (i : ℕ) → i < m → getD (take m (drop s frame)) i 0 ≡ getD xs i 0
       each i k = getD-take m (drop s frame) i 0 k ∙ getD-drop s frame i 0 ∙ frame-head (s + i) (omega arith) ∙ h i k
 
@@ -119,15 +120,19 @@ frame-passes d first info k len sixteen small plain =
   where
     f : List ℕ
     f = scrambled (first + k) (dataFrame d info (first + k))
+
     number : numberOf f ≡ first + k
     number = frame-number d info (first + k) len small
+
     info-is : infoOf f ≡ info
     info-is = frame-info d info (first + k) len
+
     first-is : (b : Bool) → eqb k 0 ≡ b → (not (eqb k 0) || eqb (numberOf f % 16) 0) ≡ true
     first-is true e =
         let z : k ≡ 0 = eqb-true k 0 e in
         rw (eq-eqb (numberOf f % 16) 0 (omega (arith, number))) (or-true (not (eqb k 0)))
     first-is false e = rw e
+
     id : idPasses first info k f ≡ true
     id =
         rw (first-is (eqb k 0) refl, eq-eqb (numberOf f) (first + k) number, ap isPermitted info-is ∙ plain)

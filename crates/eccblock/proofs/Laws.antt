@@ -1,13 +1,12 @@
 -- A made block: all its rows and its columns 0 to 171 are code words, its frames pass every check, and unscrambling gives the main data back.
 -- Assumes nothing.
-use mathlib.Core.Path.{_≡_, refl, sym, ap, ap₂, subst, _∙_}
+use mathlib.Core.Path.{_≡_, sym, ap, ap₂, subst, _∙_}
 use mathlib.Core.Bool.{true}
-use mathlib.Core.List.{List, _++_}
-use Prim.Native.Nat.{ℕ, _+_, _*_, _-_, _/_, _%_, _<_, _≤_}
+use mathlib.Core.List.{List}
+use Prim.Native.Nat.{ℕ, _+_, _*_, _/_, _%_, _<_}
 use native.Mathlib.Omega.{arith}
-use lib.ListN.{length, getD, take, drop, length-append, length-drop, List·getD-append}
+use lib.ListN.{length, getD, drop, length-append, length-drop, List·getD-append}
 use lib.Seq.{ext-getD, getD-take, getD-drop, length-take-le}
-use Rattle.lists.specs.Fill.{tabulate}
 use Rattle.lists.specs.Bytes.{Bytes}
 use Rattle.lists.proofs.Test.{truth}
 use Rattle.lists.proofs.Fill.{length-tabulate, getD-tabulate, is-tabulate}
@@ -16,14 +15,12 @@ use Rattle.reedsolomon.specs.Word.{isCode}
 use Rattle.reedsolomon.specs.Parity.{parity}
 use Rattle.reedsolomon.proofs.Words.{IsCode, test-of-code}
 use Rattle.reedsolomon.proofs.Division.{ten-roots, sixteen-roots, parity-length, parity-bytes, parity-code}
-use Rattle.dataframe.specs.Frame.{dataFrame}
-use Rattle.dataframe.specs.Scrambling.{scrambled}
 use Rattle.dataframe.specs.Checks.{infoOf, numberOf, mainOf, frameRefusal}
 use Rattle.dataframe.proofs.Laws as one
 use Rattle.eccblock.specs.Block.{mainPart, frame, dataByte, column, codeColumn, row, codeRow, recordingRow, originalRow, blockByte, block}
 use Rattle.eccblock.specs.Parts.{rowOf, columnOf, frameOf, mainOfBlock}
 use Rattle.eccblock.specs.Encode.{Accepted}
-use Rattle.eccblock.proofs.Order.{recording-row, recording-lt, original-recording, recording-original}
+use Rattle.eccblock.proofs.Order.{recording-lt, original-recording}
 use Rattle.eccblock.proofs.Refusals.{Facts, accepted-facts}
 
 pub column-of-length : (xs : List ℕ) (j : ℕ) → length (columnOf xs j) ≡ 208
@@ -160,6 +157,7 @@ module _ (main : List ℕ) (first info : ℕ) (ok : Accepted main first info) wh
     where
       len : length (rowOf made q) ≡ 182
       len = length-take-le 182 (drop (q * 182) made) (rw length-drop (omega (arith, block-length)))
+
       each : (j : ℕ) → j < 182 → getD (rowOf made q) j 0 ≡ getD (codeRow main first info (originalRow q)) j 0
       each j l = getD-take 182 (drop (q * 182) made) j 0 l ∙ getD-drop (q * 182) made j 0 ∙ block-at q j h l
 

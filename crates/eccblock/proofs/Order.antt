@@ -9,7 +9,6 @@ use lib.Dec.{eqb, leb, ltb}
 use Rattle.lists.specs.Count.{countFrom}
 use Rattle.lists.proofs.Count.{count-append, count-same}
 use Rattle.lists.proofs.More4.{count-weave}
-use Rattle.field.specs.Field.{lastBelow}
 use Rattle.field.proofs.Inverse.{last-unique}
 use Rattle.eccblock.specs.Block.{recordingRow, originalRow}
 

@@ -10,7 +10,7 @@ use native.Mathlib.Omega.{arith}
 use borrow.Author.Tests.{ltb-true, ltb-false}
 use lib.Dec.{ltb}
 use lib.ListN.{length, getD, set, take, drop, length-set, length-drop, List·getD-append}
-use lib.Seq.{ext-getD, getD-set-same, getD-set-other, getD-append-add, getD-take, getD-drop, length-take-le}
+use lib.Seq.{getD-set-same, getD-set-other, getD-append-add, getD-take, getD-drop, length-take-le}
 use Rattle.lists.specs.Fill.{tabulate}
 use Rattle.lists.proofs.Fill.{length-tabulate, getD-tabulate, is-tabulate}
 use Rattle.reedsolomon.specs.Parity.{parity}
@@ -29,9 +29,9 @@ pub stored-more :
 stored-more at v old new n apart h w = record {
   size = length-set new (at n) (getD v n 0) ∙ w .size;
   done = λ i l. dite (ℕ-discrete i n)
-  (λ e. ap (λ (x : ℕ). getD (set new (at n) (getD v n 0)) (at x) 0) e ∙ getD-set-same new (at n) (getD v n 0) 0 (omega (arith, w .size))
-  ∙ ap (λ (x : ℕ). getD v x 0) (sym e))
-  (λ z. getD-set-other new (at n) (at i) (getD v n 0) 0 (apart i (omega (arith, z))) ∙ w .done i (omega (arith, z)));
+      (λ e. ap (λ (x : ℕ). getD (set new (at n) (getD v n 0)) (at x) 0) e ∙ getD-set-same new (at n) (getD v n 0) 0 (omega (arith, w .size))
+      ∙ ap (λ (x : ℕ). getD v x 0) (sym e))
+      (λ z. getD-set-other new (at n) (at i) (getD v n 0) 0 (apart i (omega (arith, z))) ∙ w .done i (omega (arith, z)));
   left = λ p a. getD-set-other new (at n) p (getD v n 0) 0 (a n (omega arith)) ∙ w .left p (λ i l. a i (omega arith));
 }
 
@@ -55,9 +55,9 @@ pub frames-more :
 frames-more main first info k f old new e w v = record {
   size = w .size ∙ v .size;
   done = λ i p l h. dite (ℕ-discrete i k)
-  (λ t. ap (λ (x : ℕ). getD new (framePlace x p) 0) t ∙ w .done p h ∙ ap (λ (g : List ℕ). getD g p 0) e
-  ∙ ap (λ (x : ℕ). getD (frame main first info x) p 0) (sym t))
-  (λ n. w .left (framePlace i p) (λ q m. frame-other i k p q n h m) ∙ v .done i p (omega (arith, n)) h);
+      (λ t. ap (λ (x : ℕ). getD new (framePlace x p) 0) t ∙ w .done p h ∙ ap (λ (g : List ℕ). getD g p 0) e
+      ∙ ap (λ (x : ℕ). getD (frame main first info x) p 0) (sym t))
+      (λ n. w .left (framePlace i p) (λ q m. frame-other i k p q n h m) ∙ v .done i p (omega (arith, n)) h);
 }
 
 -- ---- outer parity
@@ -114,9 +114,9 @@ columns-more main first info j p old new hj e w v =
         done = λ k q l h. w .left (framePlace k q) (λ i m. frame-outer k q j i h hj) ∙ v .frames .done k q l h;
       };
       done = λ h i l m. dite (ℕ-discrete h j)
-      (λ t. ap (λ (x : ℕ). getD new (outerPlace x i) 0) t ∙ w .done i m ∙ ap (λ (g : List ℕ). getD g i 0) f
-      ∙ ap (λ (x : ℕ). getD (parity 16 (column main first info x)) i 0) (sym t))
-      (λ n. w .left (outerPlace h i) (λ k t. outer-other h j i k (omega arith) hj n) ∙ v .done h i (omega (arith, n)) m);
+          (λ t. ap (λ (x : ℕ). getD new (outerPlace x i) 0) t ∙ w .done i m ∙ ap (λ (g : List ℕ). getD g i 0) f
+          ∙ ap (λ (x : ℕ). getD (parity 16 (column main first info x)) i 0) (sym t))
+          (λ n. w .left (outerPlace h i) (λ k t. outer-other h j i k (omega arith) hj n) ∙ v .done h i (omega (arith, n)) m);
     }
 
 -- ---- inner parity
@@ -149,9 +149,9 @@ rows-more main first info q p old new hq e w v =
       size = w .size ∙ v .size;
       cells = λ r j l m. w .left (r * 182 + j) (λ i t. inner-cell r j q i m t) ∙ v .cells r j l m;
       done = λ r i l m. dite (ℕ-discrete r q)
-      (λ t. ap (λ (x : ℕ). getD new (innerPlace x i) 0) t ∙ w .done i m ∙ ap (λ (g : List ℕ). getD g i 0) f
-      ∙ ap (λ (x : ℕ). getD (parity 10 (row main first info (originalRow x))) i 0) (sym t))
-      (λ n. w .left (innerPlace r i) (λ k t. inner-other r q i k m t n) ∙ v .done r i (omega (arith, n)) m);
+          (λ t. ap (λ (x : ℕ). getD new (innerPlace x i) 0) t ∙ w .done i m ∙ ap (λ (g : List ℕ). getD g i 0) f
+          ∙ ap (λ (x : ℕ). getD (parity 10 (row main first info (originalRow x))) i 0) (sym t))
+          (λ n. w .left (innerPlace r i) (λ k t. inner-other r q i k m t n) ∙ v .done r i (omega (arith, n)) m);
     }
 
 module _ (main : List ℕ) (first info : ℕ) where

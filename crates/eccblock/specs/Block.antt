@@ -1,7 +1,7 @@
 -- An ECC Block (ECMA-268, clause 18) and its Recording Frames (clause 19); document 01, 'The block'. Everything is a function of the 32,768 main data bytes,
 -- the number of the first sector and the Sector Information byte.
 -- Assumes nothing.
-use mathlib.Core.Bool.{Bool, cond}
+use mathlib.Core.Bool.{cond}
 use mathlib.Core.List.{List, _++_}
 use Prim.Native.Nat.{ℕ, _+_, _*_, _-_, _/_, _%_}
 use lib.Dec.{eqb, leb}

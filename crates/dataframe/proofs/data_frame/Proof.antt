@@ -45,7 +45,7 @@ put-at-requires-3 : tie.Need-put-at-requires-3
 put-at-requires-3 c κs = search needs
 
 returns : tie.Need-returns
-returns c = 
+returns c =
     data-built _ _ _ (c .before .before .before .before .before .before .before .before .before .before .before .before .before .before .before .before .pre .1) _ _ _ _ _ _ refl (c .before .before .before .before .before .before .before .before .before .before .before .before .before .before .head .ensures) (c .before .before .before .before .before .before .before .before .before .before .before .put-at .ensures) (c .before .before .before .before .before .before .before .before .put-at2 .ensures) (c .before .before .before .before .edc .ensures)
     (c .before .put-at3 .ensures)
 

@@ -19,7 +19,7 @@ mul-result c = search needs
 
 returns : tie.Need-returns
 unfolding edcBit
-returns c = 
+returns c =
     let e : c .args .r % 2147483648 * 2 ≡ c .args .r * 2 % 4294967296 = omega arith in
     ap (λ (x : ℕ). bitXor x ((c .args .r / 2147483648 + c .args .b) % 2 * 0x80000011)) e
 

@@ -34,8 +34,8 @@ loop-again : tie.Need-loop-again Inv-loop μ-loop
 loop-again c = (
   omega arith,
   rw (c .edc-byte .ensures)
-  (edc-next (c .before .before .before .loop .r) (c .before .before .before .before .before .args .xs .now) (c .before .before .before .loop .i) (omega arith)
-  ∙ c .before .before .before .loop .inv .1),
+      (edc-next (c .before .before .before .loop .r) (c .before .before .before .before .before .args .xs .now) (c .before .before .before .loop .i) (omega arith)
+      ∙ c .before .before .before .loop .inv .1),
 )
 
 returns : tie.Need-returns Inv-loop μ-loop

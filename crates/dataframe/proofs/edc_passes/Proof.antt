@@ -43,7 +43,7 @@ agrees-requires c κs = search needs
 
 returns : tie.Need-returns
 unfolding edcPasses
-returns c = 
+returns c =
     let f = c .before .before .before .before .before .before .before .before .args .t1 in
     let len : length f ≡ 2064 = search needs in
     let a : take 4 (drop 2060 f) ≡ drop 2060 f = take-all 4 (drop 2060 f) (rw length-drop (omega arith)) in

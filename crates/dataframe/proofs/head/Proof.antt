@@ -26,7 +26,7 @@ array-read-y : tie.Need-array-read-y
 array-read-y c = search needs
 
 returns : tie.Need-returns
-returns c = 
+returns c =
     let a = c .before .before .before .before .before .args in
     head-built (a .info) (a .n) (c .before .before .before .before .byte .result) (c .before .before .before .byte2 .result) (c .before .before .byte3 .result) _
     (c .before .before .before .before .byte .ensures) (c .before .before .before .byte2 .ensures) (c .before .before .byte3 .ensures) (c .parity2-with .ensures)

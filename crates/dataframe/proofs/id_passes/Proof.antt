@@ -1,7 +1,7 @@
 -- `dataframe::id_passes` meets its contract, case by case. Assumes nothing.
 use mathlib.Core.Path.{_≡_, ap, sym, _∙_}
 use mathlib.Core.Bool.{true, false, _||_, not}
-use Prim.Native.Nat.{ℕ, _+_, _%_}
+use Prim.Native.Nat.{ℕ, _%_}
 use borrow.Author.Tests.{not-true, not-false}
 use lib.Dec.{eqb}
 use Rattle.dataframe.specs.Checks.{numberOf}
@@ -18,7 +18,7 @@ first-passes-requires : tie.Need-first-passes-requires
 first-passes-requires c κs = search needs
 
 returns : tie.Need-returns
-returns c = 
+returns c =
     let a = c .before .before .before .args in
     let e : (not (eqb (a .k) 0) || eqb (numberOf (a .f .now) % 16) 0) ≡ false =
     ap (λ (x : ℕ). not (eqb (a .k) 0) || eqb (x % 16) 0) (sym (c .before .before .sector-number .ensures)) ∙ sym (c .before .first-passes .ensures) ∙ not-true _ (c .if1 .taken) in
@@ -26,7 +26,7 @@ returns c =
     id-first (a .first) (a .info) (a .k) (a .f .now) e
 
 returns-2 : tie.Need-returns-2
-returns-2 c = 
+returns-2 c =
     let a = c .before .before .before .before .args in
     let e : (not (eqb (a .k) 0) || eqb (numberOf (a .f .now) % 16) 0) ≡ true =
     ap (λ (x : ℕ). not (eqb (a .k) 0) || eqb (x % 16) 0) (sym (c .before .before .before .sector-number .ensures)) ∙ sym (c .before .before .first-passes .ensures) ∙ not-false _ (c .before .if1 .left) in
@@ -34,7 +34,7 @@ returns-2 c =
     id-number (a .first) (a .info) (a .k) (a .f .now) e (λ z. omega arith)
 
 returns-3 : tie.Need-returns-3
-returns-3 c = 
+returns-3 c =
     let a = c .before .before .before .before .before .args in
     let e : (not (eqb (a .k) 0) || eqb (numberOf (a .f .now) % 16) 0) ≡ true =
     ap (λ (x : ℕ). not (eqb (a .k) 0) || eqb (x % 16) 0) (sym (c .before .before .before .before .sector-number .ensures)) ∙ sym (c .before .before .before .first-passes .ensures) ∙ not-false _ (c .before .before .if1 .left) in
@@ -45,7 +45,7 @@ element-copy-out-i : tie.Need-element-copy-out-i
 element-copy-out-i c = search needs
 
 returns-4 : tie.Need-returns-4
-returns-4 c = 
+returns-4 c =
     let a = c .before .before .before .before .before .before .before .args in
     let e : (not (eqb (a .k) 0) || eqb (numberOf (a .f .now) % 16) 0) ≡ true =
     ap (λ (x : ℕ). not (eqb (a .k) 0) || eqb (x % 16) 0) (sym (c .before .before .before .before .before .before .sector-number .ensures)) ∙ sym (c .before .before .before .before .before .first-passes .ensures) ∙ not-false _ (c .before .before .before .before .if1 .left) in
@@ -53,7 +53,7 @@ returns-4 c =
     id-prohibited (a .first) (a .info) (a .k) (a .f .now) e (omega arith) (c .if4 .taken)
 
 returns-5 : tie.Need-returns-5
-returns-5 c = 
+returns-5 c =
     let a = c .before .before .before .before .before .before .before .before .args in
     let e : (not (eqb (a .k) 0) || eqb (numberOf (a .f .now) % 16) 0) ≡ true =
     ap (λ (x : ℕ). not (eqb (a .k) 0) || eqb (x % 16) 0) (sym (c .before .before .before .before .before .before .before .sector-number .ensures)) ∙ sym (c .before .before .before .before .before .before .first-passes .ensures) ∙ not-false _ (c .before .before .before .before .before .if1 .left) in
@@ -61,7 +61,7 @@ returns-5 c =
     id-unlike (a .first) (a .info) (a .k) (a .f .now) e (omega arith) (c .before .if4 .left) (c .if5 .taken)
 
 returns-6 : tie.Need-returns-6
-returns-6 c = 
+returns-6 c =
     let a = c .before .before .before .before .before .before .before .before .args in
     let e : (not (eqb (a .k) 0) || eqb (numberOf (a .f .now) % 16) 0) ≡ true =
     ap (λ (x : ℕ). not (eqb (a .k) 0) || eqb (x % 16) 0) (sym (c .before .before .before .before .before .before .before .sector-number .ensures)) ∙ sym (c .before .before .before .before .before .before .first-passes .ensures) ∙ not-false _ (c .before .before .before .before .before .if1 .left) in

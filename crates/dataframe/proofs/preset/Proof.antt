@@ -1,5 +1,5 @@
 -- `dataframe::preset` meets its contract. Assumes nothing.
-use mathlib.Core.Path.{_≡_, ap, sym, subst}
+use mathlib.Core.Path.{ap, sym, subst}
 use mathlib.Core.List.{List}
 use Prim.Native.Nat.{ℕ, _/_, _%_, _<_}
 use lib.ListN.{getD}
@@ -23,7 +23,7 @@ array-read-result c = search needs
 
 returns : tie.Need-returns
 unfolding presetOf
-returns c = 
+returns c =
     let e = ap (λ (t : List ℕ). getD t (c .before .args .n / 16 % 16) 0) (c .preset-values .ensures) in
     (e, subst (λ (x : ℕ). x < 32768) (sym e) (preset-lt (c .before .args .n)))
 

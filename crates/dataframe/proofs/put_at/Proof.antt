@@ -4,7 +4,7 @@ use mathlib.Core.List.{List}
 use Prim.Native.Nat.{ℕ, _≤_, _-_, _+_}
 use native.Mathlib.Numerals.{add-one}
 use lib.ListN.{length, getD, set, length-set}
-use lib.Seq.{paste, paste-zero, paste-suc, length-paste}
+use lib.Seq.{paste, paste-zero, paste-suc}
 use native.Mathlib.Omega.{arith}
 use Rattle.dataframe.proofs.put_at.Statement.{statement}
 use Rattle.dataframe.proofs.put_at.Tie as tie
@@ -40,8 +40,8 @@ loop-again c =
       omega arith,
       length-set (l .f) (a .at + l .i) (getD (a .s .now) (l .i) 0) ∙ l .inv .1,
       ap (λ (x : List ℕ). set x (a .at + l .i) (getD (a .s .now) (l .i) 0)) (l .inv .2)
-      ∙ paste-suc (a .f .now) (a .at) (a .s .now) (l .i) 0 (omega arith) (omega arith)
-      ∙ ap (paste (a .f .now) (a .at) (a .s .now)) (sym (add-one (l .i))),
+          ∙ paste-suc (a .f .now) (a .at) (a .s .now) (l .i) 0 (omega arith) (omega arith)
+          ∙ ap (paste (a .f .now) (a .at) (a .s .now)) (sym (add-one (l .i))),
     )
 
 same-length : tie.Need-same-length Inv-loop μ-loop

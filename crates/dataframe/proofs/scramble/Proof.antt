@@ -1,5 +1,5 @@
 -- `dataframe::scramble` meets its contract: each turn scrambles one byte, and the register is the one before it. Assumes nothing.
-use mathlib.Core.Path.{_≡_, refl, ap, ap₂, sym, _∙_}
+use mathlib.Core.Path.{_≡_, ap, ap₂, sym, _∙_}
 use Prim.Native.Nat.{ℕ, _≤_, _<_, _-_, _+_, _*_}
 use lib.Bits.{bitXor}
 use Rattle.lists.proofs.Fill.{Upto, upto-more, upto-all}
@@ -45,7 +45,7 @@ loop-less c = omega arith
 
 loop-again : tie.Need-loop-again Inv-loop μ-loop
 unfolding add
-loop-again c = 
+loop-again c =
     let l = c .before .before .before .loop in
     let inv = l .inv in
     let n : ℕ = c .before .before .before .before .before .args .n in
@@ -57,12 +57,12 @@ loop-again c =
       c .eight-shifts .ensures .0 ∙ ap (λ (x : ℕ). register x 8) (inv .3) ∙ sym (register-add (presetOf n) (8 * (l .q - 12)) 8) ∙ ap (register (presetOf n)) (sym e),
       inv .4,
       upto-more (scrambledAt n old) old (l .g) (l .q) _ (omega (arith, inv .4, inv .5 .same))
-      (ap₂ bitXor (inv .5 .left (l .q) (omega arith)) (c .before .low-byte .ensures) ∙ sym (scrambled-main n old (l .q) (l .r) (omega arith) (omega arith) (inv .3)))
-      (inv .5),
+          (ap₂ bitXor (inv .5 .left (l .q) (omega arith)) (c .before .low-byte .ensures) ∙ sym (scrambled-main n old (l .q) (l .r) (omega arith) (omega arith) (inv .3)))
+          (inv .5),
     )
 
 returns : tie.Need-returns Inv-loop μ-loop
-returns c = 
+returns c =
     let l = c .before .loop in
     let e : l .q ≡ 2060 = omega arith in
     let n : ℕ = c .before .before .before .args .n in

@@ -39,7 +39,7 @@ loop-less : tie.Need-loop-less Inv-loop μ-loop
 loop-less c = omega arith
 
 loop-again : tie.Need-loop-again Inv-loop μ-loop
-loop-again c = 
+loop-again c =
     let l = c .before .before .before .before .before .before .before .before .before .before .loop in
     let w = c .before .before .store-outer .ensures in
     let p = c .before .before .before .before .before .parity16-with .ensures ∙ ap (parity 16) (c .before .before .before .before .before .before .before .column-of .ensures) in

@@ -1,6 +1,6 @@
 -- `eccblock::column_of` meets its contract: each turn reads one byte. Assumes nothing.
-use mathlib.Core.Path.{_≡_, refl, ap, _∙_}
-use Prim.Native.Nat.{ℕ, _≤_, _-_}
+use mathlib.Core.Path.{_≡_, refl}
+use Prim.Native.Nat.{_≤_, _-_}
 use lib.ListN.{length}
 use Rattle.lists.proofs.Fill.{Upto, upto-none, upto-more, upto-all}
 use Rattle.eccblock.specs.Stages.{columnByte}
@@ -40,13 +40,13 @@ loop-less c = omega arith
 
 loop-again : tie.Need-loop-again Inv-loop μ-loop
 unfolding columnByte
-loop-again c = 
+loop-again c =
     let a = c .before .before .before .args in
     let l = c .before .before .loop in
     (omega arith, l .inv .1, upto-more (columnByte (a .out .now) (a .j)) _ (l .c) (l .i) _ (omega (arith, l .inv .1, l .inv .2 .same)) refl (l .inv .2))
 
 returns : tie.Need-returns Inv-loop μ-loop
-returns c = 
+returns c =
     let l = c .before .loop in
     let e : l .i ≡ 192 = omega arith in
     upto-all (columnByte (c .before .before .args .out .now) (c .before .before .args .j)) _ (l .c) 192 (l .inv .1) (rw e at (l .inv .2))

@@ -7,31 +7,31 @@ use Rattle.eccblock.proofs.encode_block.Statement.{statement}
 use Rattle.eccblock.proofs.encode_block.Tie as tie
 
 returns : tie.Need-returns
-returns c = 
+returns c =
     let a = c .before .before .before .args in
-    let e = main-length (length (a .main .now)) (length (a .out .now)) (a .first) (a .info)  (c .if1 .taken) in
+    let e = main-length (length (a .main .now)) (length (a .out .now)) (a .first) (a .info) (c .if1 .taken) in
     (e, buffer-left (a .main .now) (a .first) (a .info) (a .out .now) 0 e)
 
 returns-2 : tie.Need-returns-2
-returns-2 c = 
+returns-2 c =
     let a = c .before .before .before .before .args in
     let e = buffer-length (length (a .main .now)) (length (a .out .now)) (a .first) (a .info) (c .before .if1 .left) (c .if2 .taken) in
     (e, buffer-left (a .main .now) (a .first) (a .info) (a .out .now) 0 e)
 
 returns-3 : tie.Need-returns-3
-returns-3 c = 
+returns-3 c =
     let a = c .before .before .before .before .before .args in
     let e = not-sixteen (length (a .main .now)) (length (a .out .now)) (a .first) (a .info) (c .before .before .if1 .left) (c .before .if2 .left) (c .if3 .taken) in
     (e, buffer-left (a .main .now) (a .first) (a .info) (a .out .now) 1 e)
 
 returns-4 : tie.Need-returns-4
-returns-4 c = 
+returns-4 c =
     let a = c .before .before .before .before .before .before .args in
     let e = number-over (length (a .main .now)) (length (a .out .now)) (a .first) (a .info) (c .before .before .before .if1 .left) (c .before .before .if2 .left) (c .before .if3 .left) (c .if4 .taken) in
     (e, buffer-left (a .main .now) (a .first) (a .info) (a .out .now) 1 e)
 
 returns-5 : tie.Need-returns-5
-returns-5 c = 
+returns-5 c =
     let a = c .before .before .before .before .before .before .before .args in
     let e = prohibited (length (a .main .now)) (length (a .out .now)) (a .first) (a .info) (c .before .before .before .before .if1 .left) (c .before .before .before .if2 .left) (c .before .before .if3 .left) (c .before .if4 .left) (c .if5 .taken) in
     (e, buffer-left (a .main .now) (a .first) (a .info) (a .out .now) 2 e)
@@ -43,7 +43,7 @@ same-length : tie.Need-same-length
 same-length c = search needs
 
 returns-6 : tie.Need-returns-6
-returns-6 c = 
+returns-6 c =
     let a = c .before .before .before .before .before .before .before .before .before .before .before .args in
     let e = none-applies (length (a .main .now)) (length (a .out .now)) (a .first) (a .info) (c .before .before .before .before .before .before .before .before .if1 .left) (c .before .before .before .before .before .before .before .if2 .left) (c .before .before .before .before .before .before .if3 .left) (c .before .before .before .before .before .if4 .left) (c .before .before .before .before .if5 .left) in
     (e, c .before .before .fill-block .ensures ∙ buffer-made (a .main .now) (a .first) (a .info) (a .out .now) e)

@@ -20,7 +20,7 @@ same-length : tie.Need-same-length
 same-length c = search needs
 
 returns : tie.Need-returns
-returns c = 
+returns c =
     let a = c .before .before .before .before .before .before .before .before .before .before .before .before .before .before .before .before .before .before .args in
     let v = c .before .before .before .before .before .before .before .add-outer .ensures .1 (a .main .now) (a .first) (a .info) (c .before .before .before .before .before .before .before .before .before .before .before .before .store-frames .ensures) in
     rows-all (a .main .now) (a .first) (a .info) _

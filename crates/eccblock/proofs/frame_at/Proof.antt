@@ -1,6 +1,6 @@
 -- `eccblock::frame_at` meets its contract: each turn reads one byte. Assumes nothing.
-use mathlib.Core.Path.{_≡_, refl, ap, _∙_}
-use Prim.Native.Nat.{ℕ, _+_, _*_, _/_, _%_, _≤_, _-_}
+use mathlib.Core.Path.{_≡_, refl}
+use Prim.Native.Nat.{_+_, _*_, _/_, _%_, _≤_, _-_}
 use lib.ListN.{length, getD}
 use Rattle.lists.proofs.Fill.{Upto, upto-none, upto-more, upto-all}
 use Rattle.eccblock.specs.Block.{recordingRow}
@@ -44,18 +44,18 @@ loop-less : tie.Need-loop-less Inv-loop μ-loop
 loop-less c = omega arith
 
 loop-again : tie.Need-loop-again Inv-loop μ-loop
-loop-again c = 
+loop-again c =
     let a = c .before .before .before .args in
     let l = c .before .before .loop in (
       omega arith,
       l .inv .1,
       upto-more (λ p. getD (a .b .now) (recordingRow (12 * a .k + p / 172) * 182 + p % 172) 0) _ (l .f) (l .q) _ (omega (arith, l .inv .1, l .inv .2 .same))
-      (frame-of-byte (a .b .now) (a .k) (l .q) (omega arith) (omega arith)) (l .inv .2),
+          (frame-of-byte (a .b .now) (a .k) (l .q) (omega arith) (omega arith)) (l .inv .2),
     )
 
 returns : tie.Need-returns Inv-loop μ-loop
 unfolding frameOf
-returns c = 
+returns c =
     let l = c .before .loop in
     let e : l .q ≡ 2064 = omega arith in
     let a = c .before .before .args in

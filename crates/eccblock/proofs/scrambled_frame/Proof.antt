@@ -39,7 +39,7 @@ scramble-requires c κs = search needs
 
 returns : tie.Need-returns
 unfolding frame
-returns c = 
+returns c =
     let a = c .before .before .before .before .args in
     let e : 2048 * a .k + 2048 - 2048 * a .k ≡ 2048 = omega arith in
     c .scramble .ensures

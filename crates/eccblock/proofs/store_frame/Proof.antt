@@ -1,6 +1,6 @@
 -- `eccblock::store_frame` meets its contract: each turn stores one byte. Assumes nothing.
-use mathlib.Core.Path.{_≡_, refl}
-use Prim.Native.Nat.{ℕ, _≤_, _-_}
+use mathlib.Core.Path.{_≡_}
+use Prim.Native.Nat.{_≤_, _-_}
 use Rattle.eccblock.specs.Stages.{Stored, framePlace}
 use Rattle.eccblock.proofs.Staged.{stored-none, stored-more, frame-apart, frame-lt}
 use native.Mathlib.Omega.{arith}
@@ -41,7 +41,7 @@ loop-less : tie.Need-loop-less Inv-loop μ-loop
 loop-less c = omega arith
 
 loop-again : tie.Need-loop-again Inv-loop μ-loop
-loop-again c = 
+loop-again c =
     let a = c .before .before .before .args in
     let l = c .before .before .loop in (
       omega arith,
