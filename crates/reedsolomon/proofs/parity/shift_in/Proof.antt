@@ -2,10 +2,10 @@
 use lib.Bits.{bitXor}
 use lib.ListN.{length-set, set}
 use Rattle.reedsolomon.proofs.Shift.{shift-last}
-use mathlib.Core.Path.{_≡_, refl, ap, ap₂, sym, _∙_}
-use Prim.Native.Nat.{ℕ, _≤_, _<_, _-_, _+_}
+use mathlib.Core.Path.{_≡_, refl, ap₂, sym, _∙_}
+use Prim.Native.Nat.{ℕ, _≤_, _-_, _+_}
 use native.Mathlib.Omega.{arith}
-use lib.ListN.{length, getD}
+use lib.ListN.{length}
 use borrow.Author.Needs.{needs}
 use Rattle.field.specs.Field.{add, mul}
 use Rattle.codes.specs.Parity.{shiftIn}
