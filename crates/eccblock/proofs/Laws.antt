@@ -11,10 +11,10 @@ use Rattle.lists.specs.Bytes.{Bytes}
 use Rattle.lists.proofs.Test.{truth}
 use Rattle.lists.proofs.Fill.{length-tabulate, getD-tabulate, is-tabulate}
 use Rattle.lists.proofs.Bytes.{bytes-of, getD-byte, append-bytes, take-bytes, drop-bytes, tabulate-bytes}
-use Rattle.reedsolomon.specs.Word.{isCode}
-use Rattle.reedsolomon.specs.Parity.{parity}
-use Rattle.reedsolomon.proofs.Words.{IsCode, test-of-code}
-use Rattle.reedsolomon.proofs.Division.{ten-roots, sixteen-roots, parity-length, parity-bytes, parity-code}
+use Rattle.codes.specs.Word.{isCode}
+use Rattle.codes.specs.Parity.{parity}
+use Rattle.codes.proofs.Words.{IsCode, test-of-code}
+use Rattle.codes.proofs.Division.{ten-roots, sixteen-roots, parity-length, parity-bytes, parity-code}
 use Rattle.dataframe.specs.Checks.{infoOf, numberOf, mainOf, frameRefusal}
 use Rattle.dataframe.proofs.Laws as one
 use Rattle.eccblock.specs.Block.{mainPart, frame, dataByte, column, codeColumn, row, codeRow, recordingRow, originalRow, blockByte, block}

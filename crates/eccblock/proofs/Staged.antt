@@ -13,7 +13,7 @@ use lib.ListN.{length, getD, set, take, drop, length-set, length-drop, List·get
 use lib.Seq.{getD-set-same, getD-set-other, getD-append-add, getD-take, getD-drop, length-take-le}
 use Rattle.lists.specs.Fill.{tabulate}
 use Rattle.lists.proofs.Fill.{length-tabulate, getD-tabulate, is-tabulate}
-use Rattle.reedsolomon.specs.Parity.{parity}
+use Rattle.codes.specs.Parity.{parity}
 use Rattle.eccblock.specs.Block.{recordingRow, originalRow, frame, dataByte, column, codeColumn, row, codeRow, blockByte, block}
 use Rattle.eccblock.specs.Stages.{Stored, framePlace, outerPlace, innerPlace, columnByte, Frames, Columns, Rows}
 use Rattle.eccblock.proofs.Order.{recording-row, original-low, original-high}

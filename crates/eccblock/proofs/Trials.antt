@@ -5,7 +5,7 @@ use mathlib.Core.List.{List, [], _∷_, _++_}
 use Prim.Native.Nat.{ℕ, zero, suc}
 use lib.ListN.{replicate}
 use Rattle.field.specs.Field.{add, double, mulBits, mul, square, powHalves, pow}
-use Rattle.reedsolomon.specs.Parity.{addWords, timesRoot, generator, shiftIn, remainder, parity}
+use Rattle.codes.specs.Parity.{addWords, timesRoot, generator, shiftIn, remainder, parity}
 use Rattle.dataframe.specs.Frame.{idOf, iedOf, edcBit, edcBits, edcFrom, fourBytes, edcOf}
 use Rattle.dataframe.specs.Scrambling.{shifted, register, scramblingByte}
 

@@ -8,7 +8,7 @@ use lib.Dec.{eqb, leb}
 use lib.ListN.{getD, take, drop}
 use Rattle.lists.specs.Fill.{tabulate}
 use Rattle.field.specs.Field.{lastBelow}
-use Rattle.reedsolomon.specs.Parity.{parity}
+use Rattle.codes.specs.Parity.{parity}
 use Rattle.dataframe.specs.Frame.{dataFrame}
 use Rattle.dataframe.specs.Scrambling.{scrambled}
 

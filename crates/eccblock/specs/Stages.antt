@@ -6,7 +6,7 @@ use mathlib.Core.Path.{_≡_}
 use mathlib.Core.Logic.{_≢_}
 use Prim.Native.Nat.{ℕ, _+_, _*_, _/_, _%_, _<_}
 use lib.ListN.{length, getD}
-use Rattle.reedsolomon.specs.Parity.{parity}
+use Rattle.codes.specs.Parity.{parity}
 use Rattle.eccblock.specs.Block.{originalRow, frame, column, codeColumn, row}
 
 -- the first n bytes of v are stored at the places at 0, at 1, .., and every other place is as it was

@@ -4,7 +4,7 @@ use mathlib.Core.List.{List}
 use Prim.Native.Nat.{ℕ, _+_, _*_, _≤_, _-_}
 use lib.ListN.{length, take, drop}
 use borrow.Author.Needs.{needs}
-use Rattle.reedsolomon.specs.Parity.{parity}
+use Rattle.codes.specs.Parity.{parity}
 use Rattle.eccblock.specs.Stages.{Rows}
 use Rattle.eccblock.proofs.Staged.{rows-more}
 use native.Mathlib.Omega.{arith}

@@ -4,7 +4,7 @@ use mathlib.Core.List.{List}
 use Prim.Native.Nat.{ℕ, _≤_, _-_}
 use lib.ListN.{length}
 use borrow.Author.Needs.{needs}
-use Rattle.reedsolomon.specs.Parity.{parity}
+use Rattle.codes.specs.Parity.{parity}
 use Rattle.eccblock.specs.Stages.{Frames, Columns}
 use Rattle.eccblock.proofs.Staged.{columns-none, columns-more}
 use native.Mathlib.Omega.{arith}
