@@ -1,0 +1,4 @@
+pub mod Search
+pub mod Figure
+pub mod Unique
+pub mod Sync

@@ -1,0 +1,4 @@
+pub mod Channel
+pub mod Block
+pub mod Bits
+pub mod Level
