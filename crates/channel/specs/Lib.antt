@@ -2,3 +2,4 @@ pub mod Channel
 pub mod Block
 pub mod Bits
 pub mod Level
+pub mod Inner
