@@ -15,7 +15,6 @@ use Rattle.annexg.specs.Read.{State, bothZero, agrees}
 use Rattle.annexg.specs.Runs.{bitsOf, lead, trail, inner}
 use Rattle.annexg.specs.Sync.{syncTable, syncEnd, codeFor, syncRuns}
 
-
 pub length-sync : length syncTable ≡ 32
 unfolding syncTable
 length-sync = refl

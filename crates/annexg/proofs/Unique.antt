@@ -25,10 +25,10 @@ data Tree : Type 0 where
 put : ℕ → ℕ → Tree → Tree
 put w b leaf = node leaf w b leaf
 put w b (node l v c r) =
-    elim (compare w v)
-    [ Ordering·lt ↦ node (put w b l) v c r
-    | Ordering·eq ↦ node l v c r
-    | Ordering·gt ↦ node l v c (put w b r)
+    elim (compare w v) [
+      | Ordering·lt ↦ node (put w b l) v c r
+      | Ordering·eq ↦ node l v c r
+      | Ordering·gt ↦ node l v c (put w b r)
     ]
 
 get : ℕ → Tree → ℕ

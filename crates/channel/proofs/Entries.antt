@@ -92,4 +92,3 @@ taken s l b true hb hs p = other s b (ltb b 88) (inside 2 10 (joinRun l (entryFo
 
 pub taken-next : {s b e : ℕ} → Taken s b e → State (e % 16)
 taken-next {s} {b} {e} t = rw (t .entry-is) (entry-next (t .table-no) b (t .column) (t .table-small) (t .row-small) (t .column-small))
-
