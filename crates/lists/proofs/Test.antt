@@ -72,3 +72,8 @@ or-left false b t = absurd t
 pub or-right : (a b : Bool) → T b → T (a || b)
 or-right true b t = tt
 or-right false b t = t
+
+-- a test that is asked only where another passes
+pub implied : (a b : Bool) → T a → T (cond a b true) → T b
+implied true b t u = u
+implied false b t u = absurd t
