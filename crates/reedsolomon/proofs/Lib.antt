@@ -4,3 +4,4 @@ pub mod KeyEquation
 pub mod Division
 pub mod Nearest
 pub mod Shift
+pub mod Product
