@@ -1,4 +1,4 @@
--- A made block: all its rows and its columns 0 to 171 are code words, its frames pass every check, and unscrambling gives the main data back.
+-- A made block: all its rows and columns are code words, its frames pass every check, and unscrambling gives the main data back.
 -- Assumes nothing.
 use mathlib.Core.Path.{_≡_, sym, ap, ap₂, subst, _∙_}
 use mathlib.Core.Bool.{true}
@@ -7,6 +7,7 @@ use Prim.Native.Nat.{ℕ, _+_, _*_, _/_, _%_, _<_}
 use native.Mathlib.Omega.{arith}
 use lib.ListN.{length, getD, drop, length-append, length-drop, List·getD-append}
 use lib.Seq.{ext-getD, getD-take, getD-drop, length-take-le}
+use Rattle.lists.specs.Fill.{tabulate}
 use Rattle.lists.specs.Bytes.{Bytes}
 use Rattle.lists.proofs.Test.{truth}
 use Rattle.lists.proofs.Fill.{length-tabulate, getD-tabulate, is-tabulate}
@@ -161,16 +162,19 @@ module _ (main : List ℕ) (first info : ℕ) (ok : Accepted main first info) wh
       each : (j : ℕ) → j < 182 → getD (rowOf made q) j 0 ≡ getD (codeRow main first info (originalRow q)) j 0
       each j l = getD-take 182 (drop (q * 182) made) j 0 l ∙ getD-drop (q * 182) made j 0 ∙ block-at q j h l
 
-  -- its columns 0 to 171
+  -- its columns, and columns 0 to 171
+  block-any-column : (j : ℕ) → j < 182 → columnOf made j ≡ tabulate (λ i. getD (codeRow main first info i) j 0) 208
+  block-any-column j h =
+      is-tabulate (λ i. getD (codeRow main first info i) j 0) (columnOf made j) 208 (column-of-length made j)
+      (λ i l. column-of-at made j i l ∙ block-at (recordingRow i) j (recording-lt i l) h
+      ∙ ap (λ (x : ℕ). getD (codeRow main first info x) j 0) (original-recording i l))
+
+  array-column : (j : ℕ) → j < 172 → codeColumn main first info j ≡ tabulate (λ i. getD (codeRow main first info i) j 0) 208
+  array-column j h =
+      is-tabulate (λ i. getD (codeRow main first info i) j 0) (codeColumn main first info j) 208 (code-column-length j) (λ i l. sym (code-row-at i j h))
+
   pub block-column : (j : ℕ) → j < 172 → columnOf made j ≡ codeColumn main first info j
-  block-column j h =
-      ext-getD 0 (columnOf made j) (codeColumn main first info j) (column-of-length made j ∙ sym (code-column-length j))
-      (λ i l. each i (rw (column-of-length made j) at l))
-    where
-      each : (i : ℕ) → i < 208 → getD (columnOf made j) i 0 ≡ getD (codeColumn main first info j) i 0
-      each i l =
-          column-of-at made j i l ∙ block-at (recordingRow i) j (recording-lt i l) (omega arith)
-          ∙ ap (λ (x : ℕ). getD (codeRow main first info x) j 0) (original-recording i l) ∙ code-row-at i j h
+  block-column j h = block-any-column j (omega arith) ∙ sym (array-column j h)
 
   -- its frames
   pub block-frame : (k : ℕ) → k < 16 → frameOf made k ≡ frame main first info k
@@ -195,10 +199,14 @@ module _ (main : List ℕ) (first info : ℕ) (ok : Accepted main first info) wh
   block-row-code q h =
       truth (isCode 10 (rowOf made q)) (test-of-code 10 (rowOf made q) (subst (IsCode 10) (sym (block-row q h)) (code-row-code (originalRow q))))
 
-  -- every column 0 to 171 of a made block is a code word of the outer code
-  pub block-column-code : (j : ℕ) → j < 172 → isCode 16 (columnOf made j) ≡ true
-  block-column-code j h =
-      truth (isCode 16 (columnOf made j)) (test-of-code 16 (columnOf made j) (subst (IsCode 16) (sym (block-column j h)) (code-column-code j)))
+  -- every column of a made block, the columns of inner parity too, is a code word of the outer code: the two codes make a product code
+  pub block-column-code : (j : ℕ) → j < 182 → isCode 16 (columnOf made j) ≡ true
+  block-column-code j h = truth (isCode 16 (columnOf made j)) (test-of-code 16 (columnOf made j) (subst (IsCode 16) (sym (block-any-column j h)) code))
+    where
+      code : IsCode 16 (tabulate (λ i. getD (codeRow main first info i) j 0) 208)
+      code =
+          product-code 10 16 208 182 (codeRow main first info) (omega arith) code-row-length code-row-bytes code-row-code
+          (λ i l. subst (IsCode 16) (array-column i (omega arith)) (code-column-code i)) j h
 
   -- frame k of a made block has its number and the Sector Information, and passes every check
   pub frame-number : (k : ℕ) → k < 16 → numberOf (frame main first info k) ≡ first + k

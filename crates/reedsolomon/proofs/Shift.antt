@@ -18,7 +18,7 @@ use Rattle.codes.proofs.Words.{addWords-length}
 unfoldable pub shiftAt : List ℕ → List ℕ → ℕ → ℕ → ℕ
 shiftAt g r b k = add (getD r (k + 1) 0) (mul (add b (getD r 0 0)) (getD g k 0))
 
-add-at : (r s : List ℕ) (k : ℕ) → length r ≡ length s → k < length r → getD (addWords r s) k 0 ≡ add (getD r k 0) (getD s k 0)
+pub add-at : (r s : List ℕ) (k : ℕ) → length r ≡ length s → k < length r → getD (addWords r s) k 0 ≡ add (getD r k 0) (getD s k 0)
 unfolding addWords
 add-at [] s k l h = absurd (not-suc-le-zero h)
 add-at (a ∷ r) [] k l h = absurd (omega arith)
@@ -31,7 +31,7 @@ end-at [] (suc k) = refl
 end-at (a ∷ r) zero = refl
 end-at (a ∷ r) (suc k) = end-at r k
 
-map-at : (f : ℕ → ℕ) (g : List ℕ) (k : ℕ) → k < length g → getD (map f g) k 0 ≡ f (getD g k 0)
+pub map-at : (f : ℕ → ℕ) (g : List ℕ) (k : ℕ) → k < length g → getD (map f g) k 0 ≡ f (getD g k 0)
 map-at f [] k h = absurd (not-suc-le-zero h)
 map-at f (a ∷ g) zero h = refl
 map-at f (a ∷ g) (suc k) h = map-at f g k (le-of-suc-le-suc h)
