@@ -1,3 +1,1 @@
 pub mod Loops
-pub mod Shift
-pub mod Product

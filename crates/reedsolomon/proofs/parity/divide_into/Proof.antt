@@ -6,7 +6,7 @@ use native.Mathlib.Omega.{arith}
 use lib.ListN.{length, getD, drop}
 use borrow.Author.Needs.{needs}
 use Rattle.codes.specs.Parity.{shiftIn, remainder}
-use Rattle.reedsolomon.proofs.Shift.{shift-size, remainder-next, remainder-end}
+use Rattle.codes.proofs.Shift.{shift-size, remainder-next, remainder-end}
 use Rattle.reedsolomon.proofs.parity.divide_into.Statement.{statement}
 use Rattle.reedsolomon.proofs.parity.divide_into.Tie as tie
 

@@ -10,11 +10,11 @@ use Rattle.lists.specs.Fill.{tabulateFrom, tabulate}
 use Rattle.lists.proofs.Bytes.{zeros-bytes}
 use Rattle.field.specs.Field.{add, mul, pow}
 use Rattle.field.proofs.Field.{add-self, mul-zero, mul-comm}
-use Rattle.reedsolomon.specs.Word.{valueFrom, valueAt, syndrome}
-use Rattle.reedsolomon.specs.Parity.{addWords}
-use Rattle.reedsolomon.proofs.Words.{IsCode, ifNonzero, weight, syndrome-add, addWords-length, addWords-bytes, light}
-use Rattle.reedsolomon.proofs.Division.{valueFrom-append, valueFrom-scale, map-bytes, zeros-valueAt}
-use Rattle.reedsolomon.proofs.Shift.{add-at, map-at}
+use Rattle.codes.specs.Word.{valueFrom, valueAt, syndrome}
+use Rattle.codes.specs.Parity.{addWords}
+use Rattle.codes.proofs.Words.{IsCode, ifNonzero, weight, syndrome-add, addWords-length, addWords-bytes, light}
+use Rattle.codes.proofs.Division.{valueFrom-append, valueFrom-scale, map-bytes, zeros-valueAt}
+use Rattle.codes.proofs.Shift.{add-at, map-at}
 
 -- ---- lists
 
