@@ -24,14 +24,14 @@ unfolding valueFrom
 valueFrom-append x v [] s = refl
 valueFrom-append x v (b ∷ r) s = valueFrom-append x (add (mul v x) b) r s
 
-valueFrom-scale : (x f v : ℕ) (r : List ℕ) → valueFrom x (mul f v) (map (mul f) r) ≡ mul f (valueFrom x v r)
+pub valueFrom-scale : (x f v : ℕ) (r : List ℕ) → valueFrom x (mul f v) (map (mul f) r) ≡ mul f (valueFrom x v r)
 unfolding valueFrom
 valueFrom-scale x f v [] = refl
 valueFrom-scale x f v (b ∷ r) =
     ap (λ (u : ℕ). valueFrom x u (map (mul f) r)) (ap (λ (u : ℕ). add u (mul f b)) (mul-assoc f v x) ∙ sym (mul-add f (mul v x) b))
     ∙ valueFrom-scale x f (add (mul v x) b) r
 
-map-bytes : (f : ℕ) (r : List ℕ) → Bytes (map (mul f) r)
+pub map-bytes : (f : ℕ) (r : List ℕ) → Bytes (map (mul f) r)
 unfolding Bytes
 map-bytes f [] = tt
 map-bytes f (a ∷ r) = (mul-lt f a, map-bytes f r)
@@ -88,7 +88,7 @@ module _ (g : List ℕ) (x : ℕ) (hx : x < 256) (root : valueFrom x 0 g ≡ pow
       remainder-valueAt d (shiftIn g (h ∷ r) b) (add (mul v x) b) z (shift-length g (h ∷ r) b l) (shift-bytes g (h ∷ r) b k)
       (shift-valueAt h r b l k ∙ ap (λ (u : ℕ). add (mul u x) (mul b (pow x (length g)))) e ∙ horner-term v b (pow x (length g)) x)
 
-zeros-valueAt : (x n : ℕ) → valueFrom x 0 (replicate n 0) ≡ 0
+pub zeros-valueAt : (x n : ℕ) → valueFrom x 0 (replicate n 0) ≡ 0
 unfolding valueFrom
 zeros-valueAt x zero = refl
 zeros-valueAt x (suc n) = ap (λ (u : ℕ). valueFrom x u (replicate n 0)) (add-zero (mul 0 x) ∙ zero-mul x) ∙ zeros-valueAt x n

@@ -2,6 +2,8 @@ pub mod Vandermonde
 pub mod Words
 pub mod KeyEquation
 pub mod Division
+pub mod Shift
+pub mod Product
 pub mod Nearest
 pub mod Roots
 pub mod Elimination

@@ -1,24 +1,22 @@
 -- The frame of a sector: it holds its number, its Sector Information and its main data, and it passes every check.
 -- Assumes nothing.
-use mathlib.Core.Path.{_≡_, refl, sym, ap, ap₂, _∙_}
+use mathlib.Core.Path.{_≡_, refl, sym, ap, _∙_}
 use mathlib.Core.Bool.{Bool, true, false, _||_, not}
 use mathlib.Core.List.{List, _++_}
-use Prim.Native.Nat.{ℕ, _+_, _*_, _-_, _/_, _%_, _<_, _≤_}
+use Prim.Native.Nat.{ℕ, _+_, _-_, _/_, _%_, _<_, _≤_}
 use native.Mathlib.Omega.{arith}
 use borrow.Author.Tests.{eqb-true, eq-eqb}
-use lib.Bits.{bitAnd}
 use lib.Dec.{eqb}
-use lib.ListN.{length, getD, take, drop, length-append, length-drop, List·getD-append}
+use lib.ListN.{length, getD, take, drop, length-drop, List·getD-append}
 use lib.Seq.{ext-getD, getD-append-add, getD-take, getD-drop, length-take-le}
-use Rattle.lists.specs.Fill.{tabulate}
 use Rattle.lists.specs.Bytes.{Bytes}
 use Rattle.lists.proofs.Fill.{length-tabulate, getD-tabulate}
 use Rattle.dataframe.specs.Frame.{isPermitted, idOf, iedOf, cprMai, headOf, edcOf, dataFrame}
 use Rattle.dataframe.specs.Scrambling.{scrambledAt, scrambled}
 use Rattle.dataframe.specs.Checks.{infoOf, numberOf, unscrambled, mainOf, iedPasses, idPasses, edcPasses, frameRefusal}
 use Rattle.dataframe.proofs.Scrambled.{scrambled-head, scrambled-end, scrambled-bytes, scrambled-twice}
-use Rattle.dataframe.proofs.Framed.{id-length, ied-length, head-length, data-length, data-bytes, data-head, data-front, data-edc, data-main}
-use Rattle.dataframe.proofs.Checked.{agree-same, id-passes, refusal-none}
+use Rattle.dataframe.proofs.Framed.{id-length, ied-length, data-length, data-bytes, data-head, data-front, data-edc, data-main}
+use Rattle.dataframe.proofs.Checked.{agree-same, refusal-none}
 
 or-true : (b : Bool) → (b || true) ≡ true
 or-true true = refl

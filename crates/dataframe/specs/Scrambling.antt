@@ -1,6 +1,6 @@
 -- Scrambled Frames (ECMA-268, clause 17; document 01, 'The block'): after EDC is set, each main data byte has a scrambling byte added to it.
 -- Assumes nothing.
-use mathlib.Core.Bool.{Bool, _&&_, cond}
+use mathlib.Core.Bool.{_&&_, cond}
 use mathlib.Core.List.{List, [], _∷_}
 use Prim.Native.Nat.{ℕ, zero, suc, _+_, _*_, _-_, _^_, _/_, _%_}
 use lib.Dec.{leb, ltb}

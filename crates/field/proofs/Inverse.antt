@@ -13,7 +13,7 @@ use Rattle.field.proofs.Field.{mul-cancel, mul-pow-254, zero-mul}
 use Rattle.field.proofs.Powers.{pow-lt}
 
 -- where exactly one number passes the test, it is found
-last-unique : (f : ℕ → Bool) (n b : ℕ) → b < n → f b ≡ true → ((k : ℕ) → k < n → f k ≡ true → k ≡ b) → lastBelow f n ≡ b
+pub last-unique : (f : ℕ → Bool) (n b : ℕ) → b < n → f b ≡ true → ((k : ℕ) → k < n → f k ≡ true → k ≡ b) → lastBelow f n ≡ b
 unfolding lastBelow
 last-unique f zero b l e u = absurd (not-suc-le-zero l)
 last-unique f (suc n) b l e u = go (f n) refl (eq-or-lt-of-le (le-of-suc-le-suc l)) (λ k. last-unique f n b k e (λ j m. u j (omega arith)))

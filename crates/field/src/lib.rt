@@ -68,7 +68,7 @@ pub fn power(t: &[u8; 768], a: u8, n: u64) -> u8
     }
 }
 
-// Entry a is the logarithm of a to the base α (entry 0 is unused); entry 256 + i is α^i, i up to 511.
+// Entry a is the logarithm of a to the base α (entry 0 is unused); entry 256 + i is α^i, i up to 511. The one entry in hexadecimal is α^8.
 const TABLE: [u8; 768] = [
     0,
     0,
@@ -334,7 +334,7 @@ const TABLE: [u8; 768] = [
     32,
     64,
     128,
-    29,
+    0x1D,
     58,
     116,
     232,

@@ -1,14 +1,14 @@
 -- Buffers that a loop fills or changes from the front on, one entry a turn. Holds for any f.
 -- Assumes nothing.
 use mathlib.Core.Path.{_≡_, refl, sym, ap, _∙_}
-use mathlib.Core.List.{List, [], _∷_}
+use mathlib.Core.List.{List, [], _∷_, _++_}
 use mathlib.Core.Logic.{dite}
 use Prim.Native.Nat.{ℕ, zero, suc, _+_, _<_, _≤_}
 use native.Mathlib.Nat.{add-zero, add-suc, suc-add}
 use native.Mathlib.Decide.{ℕ-discrete}
 use native.Mathlib.Omega.{arith}
-use lib.ListN.{getD, set, length, length-set}
-use lib.Seq.{ext-getD, getD-set-same, getD-set-other}
+use lib.ListN.{getD, set, length, take, drop, length-set, length-drop}
+use lib.Seq.{ext-getD, getD-set-same, getD-set-other, getD-take, getD-drop, length-take-le}
 use Rattle.lists.specs.Fill.{tabulateFrom, tabulate}
 
 -- ---- lists given by a function
@@ -57,3 +57,31 @@ upto-more f old xs j v h e w = record {
 
 pub upto-all : (f : ℕ → ℕ) (old xs : List ℕ) (n : ℕ) → length old ≡ n → Upto f old xs n → xs ≡ tabulate f n
 upto-all f old xs n e w = is-tabulate f xs n (w .same ∙ e) (λ i h. w .done i h)
+
+-- ---- parts of such lists
+
+pub tabulate-same : (f g : ℕ → ℕ) (k l n : ℕ) → ((i : ℕ) → i < n → f (k + i) ≡ g (l + i)) → tabulateFrom f k n ≡ tabulateFrom g l n
+tabulate-same f g k l n h =
+    ext-getD 0 (tabulateFrom f k n) (tabulateFrom g l n) (length-tabulateFrom f k n ∙ sym (length-tabulateFrom g l n))
+    (λ i m. let j : i < n = omega (arith, length-tabulateFrom f k n) in getD-tabulateFrom f k n i j ∙ h i j ∙ sym (getD-tabulateFrom g l n i j))
+
+pub tabulate-append : (f : ℕ → ℕ) (k n m : ℕ) → tabulateFrom f k n ++ tabulateFrom f (k + n) m ≡ tabulateFrom f k (n + m)
+unfolding tabulateFrom
+tabulate-append f k zero m =
+    let e : k + 0 ≡ k = omega arith in
+    let g : 0 + m ≡ m = omega arith in
+    rw (e, g)
+tabulate-append f k (suc n) m =
+    let e : k + suc n ≡ suc k + n = omega arith in
+    let g : suc n + m ≡ suc (n + m) = omega arith in
+    rw (e, g) (ap (λ (xs : List ℕ). f k ∷ xs) (tabulate-append f (suc k) n m))
+
+-- a part of n from place j on
+pub part-tabulate : (f : ℕ → ℕ) (k j n m : ℕ) → j + n ≤ m → take n (drop j (tabulateFrom f k m)) ≡ tabulateFrom f (k + j) n
+part-tabulate f k j n m h =
+    let d : n ≤ length (drop j (tabulateFrom f k m)) = omega (arith, length-drop j (tabulateFrom f k m), length-tabulateFrom f k m) in
+    let l : length (take n (drop j (tabulateFrom f k m))) ≡ n = length-take-le n (drop j (tabulateFrom f k m)) d in
+    ext-getD 0 (take n (drop j (tabulateFrom f k m))) (tabulateFrom f (k + j) n) (l ∙ sym (length-tabulateFrom f (k + j) n))
+    (λ i b. let a : i < n = omega (arith, l) in
+    getD-take n (drop j (tabulateFrom f k m)) i 0 a ∙ getD-drop j (tabulateFrom f k m) i 0 ∙ getD-tabulateFrom f k m (j + i) (omega arith) ∙ ap f (omega arith)
+    ∙ sym (getD-tabulateFrom f (k + j) n i a))

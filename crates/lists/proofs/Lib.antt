@@ -2,3 +2,4 @@ pub mod Test
 pub mod Fill
 pub mod Count
 pub mod Bytes
+pub mod More4

@@ -1,5 +1,4 @@
 -- `dataframe::edc` meets its contract. Assumes nothing.
-use mathlib.Core.Path.{_≡_}
 use Rattle.dataframe.specs.Frame.{fourBytes, edcOf}
 use borrow.Author.Needs.{needs}
 use Rattle.dataframe.proofs.edc.Statement.{statement}

@@ -1,6 +1,6 @@
 -- `dataframe::eight_shifts` meets its contract. Assumes nothing.
 use mathlib.Core.Path.{_≡_, refl, ap, _∙_}
-use Prim.Native.Nat.{ℕ, _≤_, _<_, _-_}
+use Prim.Native.Nat.{_≤_, _<_, _-_}
 use Rattle.dataframe.specs.Scrambling.{register, shifted}
 use Rattle.dataframe.proofs.Scrambled.{register-next}
 use native.Mathlib.Omega.{arith}

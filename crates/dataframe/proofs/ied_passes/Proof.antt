@@ -1,5 +1,4 @@
 -- `dataframe::ied_passes` meets its contract. Assumes nothing.
-use mathlib.Core.Path.{ap, _∙_}
 use Rattle.dataframe.specs.Checks.{iedPasses}
 use borrow.Author.Needs.{needs}
 use Rattle.dataframe.proofs.ied_passes.Statement.{statement}

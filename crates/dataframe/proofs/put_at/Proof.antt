@@ -4,7 +4,7 @@ use mathlib.Core.List.{List}
 use Prim.Native.Nat.{ℕ, _≤_, _-_, _+_}
 use native.Mathlib.Numerals.{add-one}
 use lib.ListN.{length, getD, set, length-set}
-use lib.Seq.{paste, paste-zero, paste-suc, length-paste}
+use lib.Seq.{paste, paste-zero, paste-suc}
 use native.Mathlib.Omega.{arith}
 use Rattle.dataframe.proofs.put_at.Statement.{statement}
 use Rattle.dataframe.proofs.put_at.Tie as tie

@@ -1,5 +1,5 @@
 -- `dataframe::scramble` meets its contract: each turn scrambles one byte, and the register is the one before it. Assumes nothing.
-use mathlib.Core.Path.{_≡_, refl, ap, ap₂, sym, _∙_}
+use mathlib.Core.Path.{_≡_, ap, ap₂, sym, _∙_}
 use Prim.Native.Nat.{ℕ, _≤_, _<_, _-_, _+_, _*_}
 use lib.Bits.{bitXor}
 use Rattle.lists.proofs.Fill.{Upto, upto-more, upto-all}

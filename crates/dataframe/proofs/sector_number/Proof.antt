@@ -1,5 +1,4 @@
 -- `dataframe::sector_number` meets its contract. Assumes nothing.
-use mathlib.Core.Path.{_≡_}
 use Rattle.dataframe.specs.Checks.{numberOf}
 use borrow.Author.Needs.{needs}
 use native.Mathlib.Omega.{arith}

@@ -1,12 +1,12 @@
 -- `reedsolomon::parity::divide_into` meets its contract: what is left to divide in gives the same remainder at every turn. Assumes nothing.
 use mathlib.Core.List.{List}
-use mathlib.Core.Path.{_≡_, refl, ap, ap₂, sym, _∙_}
-use Prim.Native.Nat.{ℕ, _≤_, _<_, _-_, _+_}
+use mathlib.Core.Path.{_≡_, refl, ap, sym, _∙_}
+use Prim.Native.Nat.{ℕ, _≤_, _-_, _+_}
 use native.Mathlib.Omega.{arith}
 use lib.ListN.{length, getD, drop}
 use borrow.Author.Needs.{needs}
 use Rattle.codes.specs.Parity.{shiftIn, remainder}
-use Rattle.reedsolomon.proofs.Shift.{shift-size, remainder-next, remainder-end}
+use Rattle.codes.proofs.Shift.{shift-size, remainder-next, remainder-end}
 use Rattle.reedsolomon.proofs.parity.divide_into.Statement.{statement}
 use Rattle.reedsolomon.proofs.parity.divide_into.Tie as tie
 

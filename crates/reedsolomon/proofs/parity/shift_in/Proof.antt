@@ -1,16 +1,16 @@
 -- `reedsolomon::parity::shift_in` meets its contract: each turn writes one entry of `shiftIn`, read off the entries not yet written. Assumes nothing.
 use lib.Bits.{bitXor}
 use lib.ListN.{length-set, set}
-use Rattle.reedsolomon.proofs.Shift.{shift-last}
-use mathlib.Core.Path.{_≡_, refl, ap, ap₂, sym, _∙_}
-use Prim.Native.Nat.{ℕ, _≤_, _<_, _-_, _+_}
+use Rattle.codes.proofs.Shift.{shift-last}
+use mathlib.Core.Path.{_≡_, refl, ap₂, sym, _∙_}
+use Prim.Native.Nat.{ℕ, _≤_, _-_, _+_}
 use native.Mathlib.Omega.{arith}
-use lib.ListN.{length, getD}
+use lib.ListN.{length}
 use borrow.Author.Needs.{needs}
 use Rattle.field.specs.Field.{add, mul}
 use Rattle.codes.specs.Parity.{shiftIn}
 use Rattle.lists.proofs.Fill.{Upto, upto-none, upto-more, upto-all}
-use Rattle.reedsolomon.proofs.Shift.{shiftAt, shift-is}
+use Rattle.codes.proofs.Shift.{shiftAt, shift-is}
 use Rattle.reedsolomon.proofs.parity.shift_in.Statement.{statement}
 use Rattle.reedsolomon.proofs.parity.shift_in.Tie as tie
 

@@ -1,0 +1,4 @@
+pub mod Tables
+pub mod Read
+pub mod Runs
+pub mod Sync

@@ -1,0 +1,93 @@
+-- A permitted stream of frames after any damage: each byte that is not touched is read as it was, and a row differs in at most its touched bytes.
+-- Assumes nothing.
+use mathlib.Core.Path.{_≡_, refl, sym, ap, ap₂, subst, _∙_}
+use mathlib.Core.Bool.{Bool, true, false, not, _&&_}
+use mathlib.Core.List.{List, [], _∷_, _++_}
+use Prim.Native.Nat.{ℕ, zero, suc, _+_, _*_, _/_, _%_, _<_, _≤_, suc-le-suc}
+use native.Mathlib.Omega.{arith}
+use borrow.Author.Tests.{not-false, eq-eqb}
+use lib.Dec.{T, eqb, eqb→eq}
+use lib.ListN.{length, getD, length-append}
+use Rattle.lists.specs.Bytes.{Bytes}
+use Rattle.lists.specs.Count.{bit, countFrom, distance}
+use Rattle.lists.proofs.Test.{and-left, and-right, truth-of}
+use Rattle.annexg.specs.Read.{State, bothZero, readWord}
+use Rattle.channel.specs.Block.{frames, packed, halfOf, byteOf, halfAt, readAt}
+use Rattle.channel.specs.Channel.{Item, sync, byte, permitted, stream, place, allProper}
+use Rattle.channel.proofs.Places.{frame-place, frame-item, frames-length, proper-append, frames-proper}
+use Rattle.channel.proofs.Reading.{reads}
+
+-- bits 15 and 3 of two halves are the same
+abbrev pub sameMarks : ℕ → ℕ → Bool
+sameMarks f g = eqb (f / 32768 % 2) (g / 32768 % 2) && eqb (f / 8 % 2) (g / 8 % 2)
+
+-- byte i's own half, or bit 15 or bit 3 of the half after it, is another
+unfoldable pub disturbed : List ℕ → List ℕ → ℕ → Bool
+disturbed ys xs i = not (eqb (halfAt xs (halfOf i)) (halfAt ys (halfOf i)) && sameMarks (halfAt xs (halfOf i + 1)) (halfAt ys (halfOf i + 1)))
+
+same-bothZero : (f g : ℕ) → T (sameMarks f g) → bothZero f ≡ bothZero g
+unfolding bothZero
+same-bothZero f g h =
+    ap₂ (λ (x y : ℕ). eqb (x + y) 0)
+    (eqb→eq (f / 32768 % 2) (g / 32768 % 2) (and-left (eqb (f / 32768 % 2) (g / 32768 % 2)) (eqb (f / 8 % 2) (g / 8 % 2)) h))
+    (eqb→eq (f / 8 % 2) (g / 8 % 2) (and-right (eqb (f / 32768 % 2) (g / 32768 % 2)) (eqb (f / 8 % 2) (g / 8 % 2)) h))
+
+-- the halves of packed halves
+pub half-packed : (hs : List ℕ) (k : ℕ) → halfAt (packed hs) k ≡ getD hs k 0
+unfolding halfAt packed
+half-packed [] k = refl
+half-packed (h ∷ hs) zero = omega arith
+half-packed (h ∷ hs) (suc k) =
+    let e : 2 * suc k ≡ suc (suc (2 * k)) = omega arith in
+    let f : 2 * suc k + 1 ≡ suc (suc (2 * k + 1)) = omega arith in
+    rw (f, e) (half-packed hs k)
+
+-- any frames after which an item stands, from any State and after any half
+module _ (s l n g : ℕ) (bs : List ℕ) (i₀ : Item) (end : List Item) (cs : List Bool) (e : length bs ≡ 91 * n) (hb : Bytes bs) (he : T (allProper (i₀ ∷ end)))
+    (hs : State s) (p : T (permitted s l (frames g n bs ++ i₀ ∷ end) cs)) where
+  pub reading-frames : (xs : List ℕ) (i : ℕ) → i < 91 * n → disturbed (packed (stream s (frames g n bs ++ i₀ ∷ end) cs)) xs i ≡ false → readAt xs i ≡ getD bs i 0
+  unfolding disturbed readAt
+  reading-frames xs i hi t =
+      let items = frames g n bs ++ i₀ ∷ end in
+      let o = stream s items cs in
+      let f = i / 91 in
+      let q = i % 91 in
+      let hf : f < n = omega arith in
+      let hq : q < 91 = omega arith in
+      let at-half : place items (92 * f + suc q) ≡ halfOf i = frame-place n g bs (i₀ ∷ end) e f q hf hq ∙ omega arith in
+      let at-next : suc (place items (92 * f + suc q)) ≡ halfOf i + 1 = ap suc at-half ∙ omega arith in
+      let the-byte : getD items (92 * f + suc q) (sync 0) ≡ byte (getD bs i 0) =
+      frame-item n g bs (i₀ ∷ end) e f q hf hq ∙ ap (λ (x : ℕ). byte (getD bs x 0)) (omega arith) in
+      let len : suc (92 * f + suc q) < length items = rw (length-append, frames-length n g bs e) (omega arith) in
+      let one = eqb (halfAt xs (halfOf i)) (halfAt (packed o) (halfOf i)) in
+      let two = sameMarks (halfAt xs (halfOf i + 1)) (halfAt (packed o) (halfOf i + 1)) in
+      let kept = truth-of (one && two) (not-false (one && two) t) in
+      let word : halfAt xs (halfOf i) ≡ getD o (place items (92 * f + suc q)) 0 =
+      eqb→eq (halfAt xs (halfOf i)) (halfAt (packed o) (halfOf i)) (and-left one two kept) ∙ half-packed o (halfOf i) ∙ ap (λ (x : ℕ). getD o x 0) (sym at-half) in
+      let marks : bothZero (halfAt xs (halfOf i + 1)) ≡ bothZero (getD o (suc (place items (92 * f + suc q))) 0) =
+      same-bothZero (halfAt xs (halfOf i + 1)) (halfAt (packed o) (halfOf i + 1)) (and-right one two kept)
+      ∙ ap bothZero (half-packed o (halfOf i + 1) ∙ ap (λ (x : ℕ). getD o x 0) (sym at-next)) in
+      let r = reads s l items cs (proper-append (frames g n bs) (i₀ ∷ end) (frames-proper n g bs e hb) he) hs p (92 * f + suc q) (getD bs i 0) len the-byte
+      (halfAt xs (halfOf i + 1)) marks in
+      ap (λ (w : ℕ). byteOf (readWord w (halfAt xs (halfOf i + 1)))) word ∙ ap byteOf r
+
+-- counting
+count-step : (t : Bool) (x y a b : ℕ) → (t ≡ false → x ≡ y) → a ≤ b → bit (not (eqb x y)) + a ≤ bit t + b
+count-step true x y a b f h = bound (eqb x y)
+  where
+    bound : (z : Bool) → bit (not z) + a ≤ 1 + b
+    bound true = omega arith
+    bound false = omega arith
+count-step false x y a b f h = rw (eq-eqb x y (f refl)) (omega arith)
+
+-- two lists distance in no more places than a test marks, where they are alike at each place that it leaves
+pub distance-count :
+    (xs ys : List ℕ) (t : ℕ → Bool) (k : ℕ) → length xs ≡ length ys → ((i : ℕ) → i < length xs → t (k + i) ≡ false → getD xs i 0 ≡ getD ys i 0)
+    → distance xs ys ≤ countFrom t k (length xs)
+unfolding distance
+distance-count [] ys t k e h = omega arith
+distance-count (x ∷ xs) [] t k e h = omega arith
+distance-count (x ∷ xs) (y ∷ ys) t k e h =
+    count-step (t k) x y (distance xs ys) (countFrom t (suc k) (length xs)) (λ z. h 0 (omega arith) (subst (λ (m : ℕ). t m ≡ false) (omega arith) z))
+    (distance-count xs ys t (suc k) (omega arith)
+    (λ i j z. h (suc i) (suc-le-suc j) (subst (λ (m : ℕ). t m ≡ false) (omega arith) z)))

@@ -1,0 +1,5 @@
+pub mod Channel
+pub mod Block
+pub mod Bits
+pub mod Level
+pub mod Inner

@@ -1,0 +1,5 @@
+pub mod Order
+pub mod Staged
+pub mod Refusals
+pub mod Laws
+pub mod Trials

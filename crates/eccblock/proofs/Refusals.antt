@@ -1,0 +1,84 @@
+-- The refusals of the block maker, case by case, and what an accepted block is.
+-- Assumes nothing.
+use mathlib.Core.Path.{_≡_, refl, sym, ap}
+use mathlib.Core.Bool.{Bool, true, false, _&&_, cond}
+use mathlib.Core.List.{List}
+use mathlib.Core.Logic.{_≢_}
+use Prim.Native.Nat.{ℕ, suc, _%_, _<_, _≤_}
+use native.Mathlib.Omega.{arith}
+use borrow.Author.Tests.{eq-eqb, ne-eqb, eqb-true, le-leb, lt-leb, leb-true}
+use lib.Bits.{bitAnd}
+use lib.Dec.{eqb, leb}
+use lib.ListN.{length}
+use Rattle.dataframe.specs.Frame.{isPermitted}
+use Rattle.eccblock.specs.Block.{block}
+use Rattle.eccblock.specs.Encode.{encodeRefusal, encodedBuffer, Accepted}
+
+module _ (n m first info : ℕ) where
+  pub main-length : n ≢ 32768 → 1 ≡ encodeRefusal n m first info
+  unfolding encodeRefusal
+  main-length h = rw (ne-eqb n 32768 h)
+
+  module _ (e : n ≡ 32768) where
+    pub buffer-length : m ≢ 37856 → 1 ≡ encodeRefusal n m first info
+    unfolding encodeRefusal
+    buffer-length h = rw (eq-eqb n 32768 e, ne-eqb m 37856 h)
+
+    module _ (f : m ≡ 37856) where
+      pub not-sixteen : first % 16 ≢ 0 → 2 ≡ encodeRefusal n m first info
+      unfolding encodeRefusal
+      not-sixteen h = rw (eq-eqb n 32768 e, eq-eqb m 37856 f, ne-eqb (first % 16) 0 h)
+
+      module _ (g : first % 16 ≡ 0) where
+        pub number-over : 16777200 < first → 2 ≡ encodeRefusal n m first info
+        unfolding encodeRefusal
+        number-over h = rw (eq-eqb n 32768 e, eq-eqb m 37856 f, eq-eqb (first % 16) 0 g, lt-leb first 16777200 h)
+
+        module _ (l : first ≤ 16777200) where
+          pub prohibited : bitAnd info 0xD2 ≢ 0 → 3 ≡ encodeRefusal n m first info
+          unfolding encodeRefusal
+          prohibited h =
+              rw (eq-eqb n 32768 e, eq-eqb m 37856 f, eq-eqb (first % 16) 0 g, le-leb first 16777200 l, ne-eqb (bitAnd info 0xD2) 0 h)
+
+          pub none-applies : bitAnd info 0xD2 ≡ 0 → 0 ≡ encodeRefusal n m first info
+          unfolding encodeRefusal
+          none-applies h =
+              rw (eq-eqb n 32768 e, eq-eqb m 37856 f, eq-eqb (first % 16) 0 g, le-leb first 16777200 l, eq-eqb (bitAnd info 0xD2) 0 h)
+
+-- ---- the buffer
+
+module _ (main : List ℕ) (first info : ℕ) (old : List ℕ) where
+  pub buffer-left : (r : ℕ) → suc r ≡ encodeRefusal (length main) (length old) first info → old ≡ encodedBuffer main first info old
+  unfolding encodedBuffer
+  buffer-left r e = rw (ne-eqb (encodeRefusal (length main) (length old) first info) 0 (λ z. omega (arith, e, z)))
+
+  pub buffer-made : 0 ≡ encodeRefusal (length main) (length old) first info → block main first info ≡ encodedBuffer main first info old
+  unfolding encodedBuffer
+  buffer-made e = rw (eq-eqb (encodeRefusal (length main) (length old) first info) 0 (sym e))
+
+-- ---- an accepted block
+
+and-parts : (a b : Bool) → (a && b) ≡ true → (a ≡ true) × (b ≡ true)
+and-parts true b e = (refl, e)
+and-parts false b e = absurd (let z : _≡_ {A = ℕ} 0 1 = ap (λ (t : Bool). cond t 1 0) e in omega arith)
+
+not-refused : (b : Bool) (n m : ℕ) → cond b m (suc n) ≡ 0 → (b ≡ true) × (m ≡ 0)
+not-refused true n m e = (refl, e)
+not-refused false n m e = absurd (omega arith)
+
+pub record Facts (main : List ℕ) (first info : ℕ) : Type 0 where
+  pub whole : length main ≡ 32768
+  pub sixteen : first % 16 ≡ 0
+  pub small : first ≤ 16777200
+  pub permitted : isPermitted info ≡ true
+
+pub accepted-facts : (main : List ℕ) (first info : ℕ) → Accepted main first info → Facts main first info
+unfolding encodeRefusal
+accepted-facts main first info ok =
+    let n = length main in
+    let a = not-refused (eqb n 32768 && eqb 37856 37856) 0 _ (ok .taken) in
+    let b = not-refused (eqb (first % 16) 0 && leb first 16777200) 1 _ (a .1) in
+    let c = not-refused (isPermitted info) 2 0 (b .1) in
+    let p = and-parts (eqb n 32768) (eqb 37856 37856) (a .0) in
+    let q = and-parts (eqb (first % 16) 0) (leb first 16777200) (b .0) in
+    record { whole = eqb-true n 32768 (p .0); sixteen = eqb-true (first % 16) 0 (q .0); small = leb-true first 16777200 (q .1); permitted = c .0 }

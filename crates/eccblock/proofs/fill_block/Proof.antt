@@ -1,0 +1,38 @@
+-- `eccblock::fill_block` meets its contract: the three stages one after the other. Assumes nothing.
+use Rattle.eccblock.proofs.Staged.{rows-none, rows-all}
+use borrow.Author.Needs.{needs}
+use Rattle.eccblock.proofs.fill_block.Statement.{statement}
+use Rattle.eccblock.proofs.fill_block.Tie as tie
+
+log-table-requires : tie.Need-log-table-requires
+log-table-requires c κs = search needs
+
+store-frames-requires : tie.Need-store-frames-requires
+store-frames-requires c κs = search needs
+
+add-outer-requires : tie.Need-add-outer-requires
+add-outer-requires c κs = search needs
+
+add-inner-requires : tie.Need-add-inner-requires
+add-inner-requires c κs = search needs
+
+same-length : tie.Need-same-length
+same-length c = search needs
+
+returns : tie.Need-returns
+returns c =
+    let a = c .before .before .before .before .before .before .before .before .before .before .before .before .before .before .before .before .before .before .args in
+    let v = c .before .before .before .before .before .before .before .add-outer .ensures .1 (a .main .now) (a .first) (a .info) (c .before .before .before .before .before .before .before .before .before .before .before .before .store-frames .ensures) in
+    rows-all (a .main .now) (a .first) (a .info) _
+    (c .before .before .add-inner .ensures .1 (a .main .now) (a .first) (a .info) (rows-none (a .main .now) (a .first) (a .info) _ v))
+
+pub fill-block-spec : {M : Type 1} → statement M
+fill-block-spec =
+    tie.close
+    (tie.spec
+    log-table-requires
+    store-frames-requires
+    add-outer-requires
+    add-inner-requires
+    same-length
+    returns)

@@ -1,0 +1,4 @@
+pub mod Block
+pub mod Parts
+pub mod Encode
+pub mod Stages

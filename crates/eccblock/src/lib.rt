@@ -1,0 +1,186 @@
+// The block maker (ECMA-268, clauses 16 to 19; document 01, 'The block'): 32,768 main data bytes to an ECC Block of 37,856 bytes in recording order. The table of
+// logarithms is made once a block and lent from there on.
+ghost use mathlib.Core.Path.{_≡_};
+ghost use mathlib.Core.List.{List};
+ghost use Prim.Native.Nat.{ℕ, _<_, _≤_};
+ghost use lib.ListN.{length};
+ghost use Rattle.lists.specs.Fill.{tabulate};
+ghost use Rattle.field.specs.Tables.{LogTable};
+ghost use Rattle.eccblock.specs.Block.{frame, block};
+ghost use Rattle.eccblock.specs.Parts.{frameOf};
+ghost use Rattle.eccblock.specs.Encode.{encodeRefusal, encodeNumber, encodedBuffer};
+ghost use Rattle.eccblock.specs.Stages.{Stored, framePlace, outerPlace, innerPlace, columnByte, Frames, Columns, Rows};
+
+// What the block maker answers. Document 01's number of each is `encodeNumber`.
+pub enum Encoded {
+    Block,
+    LengthRefused,
+    NumberRefused,
+    InformationRefused,
+}
+
+// ---- the frames in their rows
+
+// Scrambled Frame k of the block.
+fn scrambled_frame(t: &[u8; 768], main: &[u8], first: u32, info: u8, k: usize) -> [u8; 2064]
+    requires { ⌜ LogTable (now t) × (length (now main) ≡ 32768) × (first ≤ 16777200) × (k < 16) ⌝ }
+    ensures { λ r. ⌜ r ≡ frame (now (main .entry)) first info k ⌝ }
+{
+    let base = 2048 * k;
+    let end = base + 2048;
+    let n = first + k as u32;
+    let f = dataframe::data_frame(t, &main[base..end], info, n);
+    dataframe::scramble(f, n)
+}
+
+fn store_frame(f: &[u8; 2064], k: usize, out: &mut [u8])
+    requires { ⌜ (k < 16) × (length (now out) ≡ 37856) ⌝ }
+    ensures { λ r. ⌜ Stored (framePlace k) (now (f .entry)) (now (out .entry)) (now (out .exit)) 2064 ⌝ }
+{
+    let mut q: usize = 0;
+    while q < 2064 {
+        out[(13 * k + q / 172) * 182 + q % 172] = f[q];
+        q += 1;
+    }
+}
+
+fn store_frames(t: &[u8; 768], main: &[u8], first: u32, info: u8, out: &mut [u8])
+    requires { ⌜ LogTable (now t) × (length (now main) ≡ 32768) × (first ≤ 16777200) × (length (now out) ≡ 37856) ⌝ }
+    ensures { λ r. ⌜ Frames (now (main .entry)) first info 16 (now (out .exit)) ⌝ }
+{
+    let mut k: usize = 0;
+    while k < 16 {
+        let f = scrambled_frame(t, main, first, info, k);
+        store_frame(&f, k, out);
+        k += 1;
+    }
+}
+
+// ---- outer parity: 16 bytes for each of the 172 columns
+
+fn column_of(out: &[u8], j: usize) -> [u8; 192]
+    requires { ⌜ (length (now out) ≡ 37856) × (j < 172) ⌝ }
+    ensures { λ r. ⌜ r ≡ tabulate (columnByte (now (out .entry)) j) 192 ⌝ }
+{
+    let mut c = [0u8; 192];
+    let mut i: usize = 0;
+    while i < 192 {
+        c[i] = out[(i + i / 12) * 182 + j];
+        i += 1;
+    }
+    c
+}
+
+fn store_outer(p: &[u8; 16], j: usize, out: &mut [u8])
+    requires { ⌜ (length (now out) ≡ 37856) × (j < 172) ⌝ }
+    ensures { λ r. ⌜ Stored (outerPlace j) (now (p .entry)) (now (out .entry)) (now (out .exit)) 16 ⌝ }
+{
+    let mut i: usize = 0;
+    while i < 16 {
+        out[(13 * i + 12) * 182 + j] = p[i];
+        i += 1;
+    }
+}
+
+fn add_outer(t: &[u8; 768], out: &mut [u8])
+    requires { ⌜ LogTable (now t) × (length (now out) ≡ 37856) ⌝ }
+    ensures { λ r. ⌜ (length (now (out .exit)) ≡ 37856) × ((main : List ℕ) (first info : ℕ) → Frames main first info 16 (now (out .entry)) → Columns main first info 172 (now (out .exit))) ⌝ }
+{
+    let mut j: usize = 0;
+    while j < 172 {
+        let c = column_of(out, j);
+        let p = reedsolomon::parity16_with(t, &c);
+        store_outer(&p, j, out);
+        j += 1;
+    }
+}
+
+// ---- inner parity: 10 bytes for each of the 208 rows
+
+fn store_inner(p: &[u8; 10], q: usize, out: &mut [u8])
+    requires { ⌜ (length (now out) ≡ 37856) × (q < 208) ⌝ }
+    ensures { λ r. ⌜ Stored (innerPlace q) (now (p .entry)) (now (out .entry)) (now (out .exit)) 10 ⌝ }
+{
+    let mut i: usize = 0;
+    while i < 10 {
+        out[q * 182 + (172 + i)] = p[i];
+        i += 1;
+    }
+}
+
+fn add_inner(t: &[u8; 768], out: &mut [u8])
+    requires { ⌜ LogTable (now t) × (length (now out) ≡ 37856) ⌝ }
+    ensures { λ r. ⌜ (length (now (out .exit)) ≡ 37856) × ((main : List ℕ) (first info : ℕ) → Rows main first info 0 (now (out .entry)) → Rows main first info 208 (now (out .exit))) ⌝ }
+{
+    let mut q: usize = 0;
+    while q < 208 {
+        let at = q * 182;
+        let end = at + 172;
+        let p = reedsolomon::parity10_with(t, &out[at..end]);
+        store_inner(&p, q, out);
+        q += 1;
+    }
+}
+
+// ---- the block
+
+fn fill_block(main: &[u8], first: u32, info: u8, out: &mut [u8])
+    requires { ⌜ (length (now main) ≡ 32768) × (first ≤ 16777200) × (length (now out) ≡ 37856) ⌝ }
+    ensures { λ r. ⌜ now (out .exit) ≡ block (now (main .entry)) first info ⌝ }
+{
+    let t = field::log_table();
+    store_frames(&t, main, first, info, out);
+    add_outer(&t, out);
+    add_inner(&t, out);
+}
+
+// The block maker. Where it refuses, the buffer is left as it was.
+pub fn encode_block(main: &[u8], first: u32, info: u8, out: &mut [u8]) -> Encoded
+    ensures { λ r. ⌜ (encodeNumber r ≡ encodeRefusal (length (now (main .entry))) (length (now (out .entry))) first info) × (now (out .exit) ≡ encodedBuffer (now (main .entry)) first info (now (out .entry))) ⌝ }
+{
+    if main.len() != 32768 {
+        return Encoded::LengthRefused;
+    }
+    if out.len() != 37856 {
+        return Encoded::LengthRefused;
+    }
+    if first % 16 != 0 {
+        return Encoded::NumberRefused;
+    }
+    if 16777200 < first {
+        return Encoded::NumberRefused;
+    }
+    if info & 0xD2 != 0 {
+        return Encoded::InformationRefused;
+    }
+    fill_block(main, first, info, out);
+    Encoded::Block
+}
+
+// Document 01's number of an answer, 0 where nothing is refused.
+pub fn encode_number(e: Encoded) -> u8
+    ensures { λ r. ⌜ r ≡ encodeNumber e ⌝ }
+{
+    match e {
+        Encoded::Block => 0,
+        Encoded::LengthRefused => 1,
+        Encoded::NumberRefused => 2,
+        Encoded::InformationRefused => 3,
+    }
+}
+
+// ---- the way back
+
+// Frame k of a block buffer, still scrambled.
+pub fn frame_at(b: &[u8], k: usize) -> [u8; 2064]
+    requires { ⌜ (length (now b) ≡ 37856) × (k < 16) ⌝ }
+    ensures { λ r. ⌜ r ≡ frameOf (now (b .entry)) k ⌝ }
+{
+    let mut f = [0u8; 2064];
+    let mut q: usize = 0;
+    while q < 2064 {
+        f[q] = b[(13 * k + q / 172) * 182 + q % 172];
+        q += 1;
+    }
+    f
+}
