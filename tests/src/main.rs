@@ -1,11 +1,16 @@
 //! Compares the proved library with a second implementation, written from document 01 and ECMA-268. `tests/run` builds and runs it.
+mod block;
 mod codes_test;
 mod gf;
 mod library;
 mod random;
+mod reading;
 mod report;
 mod rs;
+mod tables;
 mod trial_data;
+mod vectors_test;
+mod writing;
 
 use random::Random;
 use report::Report;
@@ -13,6 +18,7 @@ use std::path::Path;
 use std::process::ExitCode;
 
 fn round(report: &mut Report, seed: u64) {
+    vectors_test::all(report);
     let mut random = Random::new(seed);
     codes_test::field(report, &mut random);
     codes_test::parities(report, &mut random, 2_000);
