@@ -9,6 +9,8 @@ use lib.ListN.{length}
 use Rattle.codes.specs.declared.Outcome.{Outcome}
 use Rattle.codes.specs.declared.Outcome.the-variants.{Clean, Corrected, Uncorrectable}
 use Rattle.codes.specs.Nearest.{nearest, outcomeOf}
+use Rattle.annexg.specs.declared.Reading.{Reading}
+use Rattle.annexg.specs.declared.Reading.the-variants.{Byte, Unknown}
 
 -- a buffer has n bytes
 abbrev pub sized : ℕ → List ℕ → Bool
@@ -35,3 +37,8 @@ repairNumber n p t w = cond (sized n w) (outcomeNumber (outcomeOf p t w)) 1
 -- the bytes of the word after it
 abbrev pub repairBytes : ℕ → ℕ → ℕ → List ℕ → List ℕ
 repairBytes n p t w = heldAfter (sized n w) (nearest p t w) w
+
+-- a word that was read: its byte, or 256 for an unknown one
+abbrev pub readingNumber : Reading → ℕ
+readingNumber (Byte b) = b
+readingNumber Unknown = 256
