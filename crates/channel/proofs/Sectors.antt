@@ -21,17 +21,17 @@ use Rattle.channel.proofs.Rows.{block-bytes, reading, row-damage}
 part-at : (xs : List ℕ) (a j : ℕ) → j < 4838 → getD (take 4838 (drop a xs)) j 0 ≡ getD xs (a + j) 0
 part-at xs a j h = getD-take 4838 (drop a xs) j 0 h ∙ getD-drop a xs j 0
 
-part-half : (xs : List ℕ) (k j : ℕ) → j < 2419 → halfAt (sectorPart xs k) j ≡ halfAt xs (2418 * k + j)
+pub part-half : (xs : List ℕ) (k j : ℕ) → j < 2419 → halfAt (sectorPart xs k) j ≡ halfAt xs (2418 * k + j)
 unfolding halfAt
 part-half xs k j h =
     ap₂ (λ (x y : ℕ). x * 256 + y)
     (part-at xs (4836 * k) (2 * j) (omega arith) ∙ ap (λ (x : ℕ). getD xs x 0) (omega arith))
     (part-at xs (4836 * k) (2 * j + 1) (omega arith) ∙ ap (λ (x : ℕ). getD xs x 0) (omega arith))
 
-half-of : (k i : ℕ) → 2418 * k + halfOf i ≡ halfOf (2366 * k + i)
+pub half-of : (k i : ℕ) → 2418 * k + halfOf i ≡ halfOf (2366 * k + i)
 half-of k i = omega arith
 
-half-small : (i : ℕ) → i < 2366 → halfOf i < 2418
+pub half-small : (i : ℕ) → i < 2366 → halfOf i < 2418
 half-small i h = omega arith
 
 part-read : (xs : List ℕ) (k i : ℕ) → i < 2366 → readAt (sectorPart xs k) i ≡ readAt xs (2366 * k + i)

@@ -2,3 +2,4 @@ pub mod Scrambled
 pub mod Framed
 pub mod Checked
 pub mod Laws
+pub mod Residue

@@ -16,6 +16,7 @@ use Rattle.codes.specs.Word.{isCode}
 use Rattle.codes.specs.Parity.{parity}
 use Rattle.codes.proofs.Words.{IsCode, test-of-code}
 use Rattle.codes.proofs.Division.{ten-roots, sixteen-roots, parity-length, parity-bytes, parity-code}
+use Rattle.codes.proofs.Product.{product-code}
 use Rattle.dataframe.specs.Checks.{infoOf, numberOf, mainOf, frameRefusal}
 use Rattle.dataframe.proofs.Laws as one
 use Rattle.eccblock.specs.Block.{mainPart, frame, dataByte, column, codeColumn, row, codeRow, recordingRow, originalRow, blockByte, block}

@@ -1,0 +1,121 @@
+-- `reader::read_bytes` meets its contract. The loop keeps the bytes read so far and the count of unknown words among them. Assumes nothing.
+use mathlib.Core.Path.{_≡_, refl, sym, ap, ap₂, _∙_}
+use Prim.Native.Nat.{_+_, _-_, _<_, _≤_}
+use native.Mathlib.Omega.{arith}
+use lib.ListN.{length}
+use Rattle.lists.specs.Count.{bit, countFrom}
+use Rattle.lists.proofs.Count.{count-le}
+use Rattle.lists.proofs.More7.{count-snoc}
+use Rattle.lists.proofs.Fill.{Upto, upto-none, upto-more, upto-all}
+use Rattle.channel.specs.Block.{readAt}
+use Rattle.reader.specs.Sector.{unknownAt, unknownTally}
+use Rattle.reader.proofs.Steps.{byte-is, unknown-is}
+use borrow.Author.Needs.{needs}
+use Rattle.reader.proofs.read_bytes.Statement.{statement}
+use Rattle.reader.proofs.read_bytes.Tie as tie
+
+abbrev Inv-loop : tie.InvT-loop
+Inv-loop m u stream out₀ unknown₀ i₀ out unknown i = (i ≤ 2366) × Upto (readAt stream) out₀ out i × (unknown ≡ countFrom (unknownAt stream) 0 i)
+
+abbrev μ-loop : tie.MeasureT-loop
+μ-loop m u stream out₀ unknown₀ i₀ out unknown i = 2366 - i
+
+loop-holds : tie.Need-loop-holds Inv-loop μ-loop
+loop-holds c = (omega arith, upto-none _ _, refl)
+
+mul-k : tie.Need-mul-k Inv-loop μ-loop
+mul-k c = omega arith
+
+add-k : tie.Need-add-k Inv-loop μ-loop
+add-k c = omega arith
+
+add-k-2 : tie.Need-add-k-2 Inv-loop μ-loop
+add-k-2 c = omega arith
+
+half-requires : tie.Need-half-requires Inv-loop μ-loop
+half-requires c κs = omega (arith, c .before .before .before .before .pre .2)
+
+add-half : tie.Need-add-half Inv-loop μ-loop
+add-half c = omega arith
+
+half-requires-2 : tie.Need-half-requires-2 Inv-loop μ-loop
+half-requires-2 c κs = omega (arith, c .before .before .before .before .before .pre .2)
+
+read-with-requires : tie.Need-read-with-requires Inv-loop μ-loop
+read-with-requires c κs =
+    let s = c .before .before .before .before .before .before in
+    (s .pre .0, s .pre .1)
+
+byte-of-requires : tie.Need-byte-of-requires Inv-loop μ-loop
+byte-of-requires c κs = search needs
+
+slice-write-out : tie.Need-slice-write-out Inv-loop μ-loop
+slice-write-out c =
+    let l = c .before .before .before .before .before in
+    omega (arith, l .loop .inv .1 .same, l .before .before .before .pre .3)
+
+unknown-of-requires : tie.Need-unknown-of-requires Inv-loop μ-loop
+unknown-of-requires c κs = search needs
+
+add-unknown : tie.Need-add-unknown Inv-loop μ-loop
+add-unknown c =
+    let l = c .before .before .before .before .before .before in
+    omega (arith, c .unknown-of .ensures .1, l .loop .inv .2, count-le (unknownAt (l .before .before .before .args .stream .now)) 0 (l .loop .i))
+
+add-i : tie.Need-add-i Inv-loop μ-loop
+add-i c = omega arith
+
+loop-less : tie.Need-loop-less Inv-loop μ-loop
+loop-less c = omega arith
+
+loop-again : tie.Need-loop-again Inv-loop μ-loop
+loop-again c =
+    let l = c .before .before .before .before .before .before in
+    let s = l .before .before .before in
+    let xs = s .args .stream .now in
+    let hw = c .before .before .before .before .half .ensures in
+    let hf = c .before .before .before .half2 .ensures in
+    let hr = c .before .before .read-with .ensures in
+    let inside : l .loop .i < length (l .loop .out) = omega (arith, l .loop .inv .1 .same, s .pre .3) in (
+      omega arith,
+      upto-more _ _ _ _ _ inside (c .before .byte-of .ensures ∙ byte-is xs (l .loop .i) _ _ _ hw hf hr) (l .loop .inv .1),
+      ap₂ _+_ (l .loop .inv .2) (c .unknown-of .ensures .0 ∙ ap bit (unknown-is xs (l .loop .i) _ _ _ hw hf hr)) ∙ sym (count-snoc (unknownAt xs) (l .loop .i)),
+    )
+
+same-length : tie.Need-same-length Inv-loop μ-loop
+same-length c = c .before .loop .inv .1 .same
+
+returns : tie.Need-returns Inv-loop μ-loop
+unfolding unknownTally
+returns c =
+    let l = c .before in
+    let s = l .before .before .before in
+    let xs = s .args .stream .now in
+    let e : l .loop .i ≡ 2366 = omega arith in (
+      l .loop .inv .2 ∙ ap (countFrom (unknownAt xs) 0) e,
+      upto-all (readAt xs) (s .args .out .now) (l .loop .out) 2366 (s .pre .3) (rw e at (l .loop .inv .1)),
+    )
+
+pub read-bytes-spec : {M : Type 1} → statement M
+read-bytes-spec =
+    tie.close
+    (tie.spec
+    Inv-loop
+    μ-loop
+    loop-holds
+    mul-k
+    add-k
+    add-k-2
+    half-requires
+    add-half
+    half-requires-2
+    read-with-requires
+    byte-of-requires
+    slice-write-out
+    unknown-of-requires
+    add-unknown
+    add-i
+    loop-less
+    loop-again
+    same-length
+    returns)

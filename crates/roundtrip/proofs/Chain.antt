@@ -1,0 +1,172 @@
+-- The chain of demand 3: a block buffer of which at most 8 rows differ from a made block in more than 5 bytes is repaired to the made frames, so that the
+-- repairer hands out the main data.
+-- Assumes nothing.
+use mathlib.Core.Path.{_≡_, refl, sym, ap, ap₂, subst, _∙_}
+use mathlib.Core.Bool.{Bool, true, false, cond}
+use mathlib.Core.List.{List}
+use Prim.Native.Nat.{ℕ, zero, suc, _+_, _*_, _/_, _%_, _<_, _≤_}
+use native.Mathlib.Omega.{arith}
+use borrow.Author.Tests.{ltb-false, lt-ltb, eq-eqb}
+use lib.Dec.{eqb, ltb}
+use lib.ListN.{length, getD, take, drop, length-drop}
+use lib.Seq.{ext-getD, getD-take, getD-drop, length-take-le}
+use Rattle.lists.specs.Bytes.{Bytes}
+use Rattle.lists.specs.Count.{countFrom, distance}
+use Rattle.lists.specs.Fill.{tabulate}
+use Rattle.lists.proofs.Bytes.{getD-byte, take-bytes, drop-bytes, tabulate-bytes}
+use Rattle.lists.proofs.Fill.{length-tabulate, getD-tabulate}
+use Rattle.codes.specs.Nearest.{nearest}
+use Rattle.codes.proofs.Words.{IsCode}
+use Rattle.codes.proofs.Nearest.{Near, nearest-near, nearest-bytes}
+use Rattle.dataframe.specs.Checks.{infoOf, numberOf, frameRefusal}
+use Rattle.eccblock.specs.Block.{frame, codeColumn, codeRow, recordingRow, originalRow, block}
+use Rattle.eccblock.specs.Parts.{rowOf, columnOf, frameOf, mainOfBlock}
+use Rattle.eccblock.specs.Encode.{Accepted}
+use Rattle.eccblock.proofs.Order.{recording-lt, recording-original, count-recording}
+use Rattle.eccblock.proofs.Laws.{column-of-length, column-of-at, frame-of-length, frame-of-at, code-column-length, code-column-bytes, code-column-code, code-row-length, code-row-bytes, code-row-code, block-row, block-column, block-frame, frame-number, frame-info, frame-passes, frames-main}
+use Rattle.channel.specs.Block.{farRows}
+use Rattle.channel.proofs.Damage.{distance-count}
+use Rattle.repairer.specs.Repair.{rowsRepaired, columnsRepaired, repaired, talliesOf}
+use Rattle.repairer.specs.Answer.{frameFault, judged, lengthsFit, repairAnswer, handsOut, mainAfter}
+use Rattle.repairer.specs.declared.Repaired.{Repaired}
+use Rattle.repairer.specs.declared.Repaired.the-variants.{Block, FrameRefused, LengthRefused}
+
+all-pass : (ys : List ℕ) (a : Repaired) (n k : ℕ) → ((i : ℕ) → i < k + n → frameFault ys i ≡ 0) → judged ys k n a ≡ a
+unfolding judged
+all-pass ys a zero k h = refl
+all-pass ys a (suc n) k h =
+    ap (λ (t : Bool). cond t (judged ys (suc k) n a) (FrameRefused (frameFault ys k) k)) (eq-eqb (frameFault ys k) 0 (h k (omega arith)))
+    ∙ all-pass ys a n (suc k) (λ i l. h i (omega arith))
+
+module _ (main : List ℕ) (first info : ℕ) (ok : Accepted main first info) (xs : List ℕ) (whole : length xs ≡ 37856) (hx : Bytes xs) where
+  abbrev made : List ℕ
+  made = block main first info
+
+  -- a row that differs in more than five bytes
+  abbrev far : ℕ → Bool
+  far q = ltb 5 (distance (rowOf xs q) (rowOf made q))
+
+  row-length : (q : ℕ) → q < 208 → length (rowOf xs q) ≡ 182
+  row-length q h = length-take-le 182 (drop (q * 182) xs) (rw length-drop (omega arith))
+
+  row-bytes : (q : ℕ) → Bytes (rowOf xs q)
+  row-bytes q = take-bytes 182 (drop (q * 182) xs) (drop-bytes (q * 182) xs hx)
+
+  -- a row that is not far becomes the row that was made
+  row-back : (q : ℕ) → q < 208 → far q ≡ false → nearest 10 5 (rowOf xs q) ≡ rowOf made q
+  row-back q h f =
+      let c : List ℕ = codeRow main first info (originalRow q) in
+      let e : rowOf made q ≡ c = block-row main first info ok q h in
+      nearest-near 10 5 (rowOf xs q) (row-bytes q) (omega (arith, row-length q h)) (omega arith) c
+      (record {
+        bytes = code-row-bytes main first info ok (originalRow q);
+        len = row-length q h ∙ sym (code-row-length main first info ok (originalRow q));
+        code = code-row-code main first info ok (originalRow q);
+        close = subst (λ (r : List ℕ). distance (rowOf xs q) r ≤ 5) e (ltb-false 5 (distance (rowOf xs q) (rowOf made q)) f);
+      })
+      ∙ sym e
+
+  rows-at : (q j : ℕ) → q < 208 → j < 182 → getD (rowsRepaired xs) (q * 182 + j) 0 ≡ getD (nearest 10 5 (rowOf xs q)) j 0
+  unfolding rowsRepaired
+  rows-at q j h l =
+      let a : (q * 182 + j) / 182 ≡ q = omega arith in
+      let b : (q * 182 + j) % 182 ≡ j = omega arith in
+      getD-tabulate (λ p. getD (nearest 10 5 (rowOf xs (p / 182))) (p % 182) 0) 37856 (q * 182 + j) (omega arith)
+      ∙ ap₂ (λ (x y : ℕ). getD (nearest 10 5 (rowOf xs x)) y 0) a b
+
+  rows-bytes : Bytes (rowsRepaired xs)
+  unfolding rowsRepaired
+  rows-bytes =
+      tabulate-bytes (λ p. getD (nearest 10 5 (rowOf xs (p / 182))) (p % 182) 0) 0 37856
+      (λ p. getD-byte (nearest 10 5 (rowOf xs (p / 182))) (p % 182) (nearest-bytes 10 5 (rowOf xs (p / 182)) (row-bytes (p / 182))))
+
+  -- a column then differs from the made one in far rows only
+  column-alike : (j i : ℕ) → j < 182 → i < 208 → far (recordingRow i) ≡ false → getD (columnOf (rowsRepaired xs) j) i 0 ≡ getD (columnOf made j) i 0
+  column-alike j i hj hi f =
+      column-of-at (rowsRepaired xs) j i hi
+      ∙ rows-at (recordingRow i) j (recording-lt i hi) hj
+      ∙ ap (λ (r : List ℕ). getD r j 0) (row-back (recordingRow i) (recording-lt i hi) f)
+      ∙ getD-take 182 (drop (recordingRow i * 182) made) j 0 hj ∙ getD-drop (recordingRow i * 182) made j 0
+      ∙ sym (column-of-at made j i hi)
+
+  column-distance : (j : ℕ) → j < 182 → distance (columnOf (rowsRepaired xs) j) (columnOf made j) ≤ farRows xs made
+  unfolding farRows
+  column-distance j hj =
+      let n = column-of-length (rowsRepaired xs) j in
+      let m = column-of-length made j in
+      subst (λ (c : ℕ). distance (columnOf (rowsRepaired xs) j) (columnOf made j) ≤ c)
+      (ap (countFrom (λ i. far (recordingRow i)) 0) n ∙ count-recording far 16 refl)
+      (distance-count (columnOf (rowsRepaired xs) j) (columnOf made j) (λ i. far (recordingRow i)) 0 (n ∙ sym m)
+      (λ i l f. column-alike j i hj (omega (arith, n)) (ap (λ (x : ℕ). far (recordingRow x)) (omega arith) ∙ f)))
+
+  column-bytes : (j : ℕ) → Bytes (columnOf (rowsRepaired xs) j)
+  unfolding columnOf
+  column-bytes j =
+      tabulate-bytes (λ i. getD (rowsRepaired xs) (recordingRow i * 182 + j) 0) 0 208 (λ i. getD-byte (rowsRepaired xs) (recordingRow i * 182 + j) rows-bytes)
+
+  module _ (few : farRows xs made ≤ 8) where
+    column-back : (j : ℕ) → j < 172 → nearest 16 8 (columnOf (rowsRepaired xs) j) ≡ codeColumn main first info j
+    column-back j h =
+        let c : List ℕ = codeColumn main first info j in
+        let n = column-of-length (rowsRepaired xs) j in
+        nearest-near 16 8 (columnOf (rowsRepaired xs) j) (column-bytes j) (omega arith) (omega arith) c
+        (record {
+          bytes = code-column-bytes main first info ok j;
+          len = n ∙ sym (code-column-length main first info ok j);
+          code = code-column-code main first info ok j;
+          close = subst (λ (x : List ℕ). distance (columnOf (rowsRepaired xs) j) x ≤ 8) (block-column main first info ok j h) (omega (arith, column-distance j (omega arith)));
+        })
+
+    -- columns 0 to 171 are those of the made block
+    repaired-at : (q j : ℕ) → q < 208 → j < 172 → getD (repaired xs) (q * 182 + j) 0 ≡ getD made (q * 182 + j) 0
+    unfolding repaired columnsRepaired
+    repaired-at q j h l =
+        let a : (q * 182 + j) / 182 ≡ q = omega arith in
+        let b : (q * 182 + j) % 182 ≡ j = omega arith in
+        let ys : List ℕ = rowsRepaired xs in
+        getD-tabulate (λ p. cond (ltb (p % 182) 172) (getD (nearest 16 8 (columnOf ys (p % 182))) (originalRow (p / 182)) 0) (getD ys p 0)) 37856 (q * 182 + j) (omega arith)
+        ∙ ap₂ (λ (x y : ℕ). cond (ltb y 172) (getD (nearest 16 8 (columnOf ys y)) (originalRow x) 0) (getD ys (q * 182 + j) 0)) a b
+        ∙ ap (λ (t : Bool). cond t (getD (nearest 16 8 (columnOf ys j)) (originalRow q) 0) (getD ys (q * 182 + j) 0)) (lt-ltb j 172 l)
+        ∙ ap (λ (c : List ℕ). getD c (originalRow q) 0) (column-back j l ∙ sym (block-column main first info ok j l))
+        ∙ column-of-at made j (originalRow q) (recording-original q h .0)
+        ∙ ap (λ (x : ℕ). getD made (x * 182 + j) 0) (recording-original q h .1)
+
+    frame-back : (k : ℕ) → k < 16 → frameOf (repaired xs) k ≡ frame main first info k
+    frame-back k h =
+        ext-getD 0 (frameOf (repaired xs) k) (frameOf made k) (frame-of-length (repaired xs) k ∙ sym (frame-of-length made k))
+        (λ q l. each q (rw (frame-of-length (repaired xs) k) at l))
+        ∙ block-frame main first info ok k h
+      where
+        each : (q : ℕ) → q < 2064 → getD (frameOf (repaired xs) k) q 0 ≡ getD (frameOf made k) q 0
+        each q l =
+            frame-of-at (repaired xs) k q l
+            ∙ repaired-at (recordingRow (12 * k + q / 172)) (q % 172) (recording-lt (12 * k + q / 172) (omega arith)) (omega arith)
+            ∙ sym (frame-of-at made k q l)
+
+    first-back : numberOf (frameOf (repaired xs) 0) ≡ first
+    first-back = ap numberOf (frame-back 0 (omega arith)) ∙ frame-number main first info ok 0 (omega arith) ∙ omega arith
+
+    frame-good : (i : ℕ) → i < 16 → frameFault (repaired xs) i ≡ 0
+    unfolding frameFault
+    frame-good i l =
+        ap₂ (λ (x y : ℕ). frameRefusal x y i (frameOf (repaired xs) i)) first-back (ap infoOf (frame-back 0 (omega arith)) ∙ frame-info main first info ok 0 (omega arith))
+        ∙ ap (frameRefusal first info i) (frame-back i l) ∙ frame-passes main first info ok i l
+
+    fits : lengthsFit xs 32768 ≡ true
+    unfolding lengthsFit
+    fits = rw (eq-eqb (length xs) 37856 whole)
+
+    -- the repairer hands out the first number,
+    pub handed-out : repairAnswer xs 32768 ≡ Block first (talliesOf xs)
+    unfolding repairAnswer
+    handed-out =
+        ap (λ (t : Bool). cond t (judged (repaired xs) 0 16 (Block (numberOf (frameOf (repaired xs) 0)) (talliesOf xs))) LengthRefused) fits
+        ∙ all-pass (repaired xs) (Block (numberOf (frameOf (repaired xs) 0)) (talliesOf xs)) 16 0 (λ i l. frame-good i (omega arith))
+        ∙ ap (λ (n : ℕ). Block n (talliesOf xs)) first-back
+
+    -- and the main data
+    pub main-back : (old : List ℕ) → length old ≡ 32768 → mainAfter xs old ≡ main
+    unfolding mainAfter
+    main-back old l =
+        ap (λ (a : Repaired). cond (handsOut a) (mainOfBlock (repaired xs)) old) (ap (repairAnswer xs) l ∙ handed-out)
+        ∙ frames-main main first info ok (repaired xs) frame-back

@@ -1,0 +1,4 @@
+pub mod Chain
+pub mod ReadBytes
+pub mod Demand
+pub mod Undamaged

@@ -1,0 +1,190 @@
+-- The undamaged stream of an accepted block, whatever the permitted choices, reads to its main data with all tallies 0.
+-- Assumes nothing.
+use mathlib.Core.Path.{_≡_, refl, sym, ap, ap₂, subst, _∙_}
+use mathlib.Core.Bool.{Bool, true, false, not, _&&_, _||_}
+use mathlib.Core.List.{List}
+use mathlib.Core.Logic.{_⊎_, inl, inr}
+use Prim.Native.Nat.{ℕ, zero, suc, _+_, _*_, _-_, _/_, _%_, _<_, _≤_}
+use native.Mathlib.Omega.{arith}
+use borrow.Author.Tests.{eq-eqb, le-ltb}
+use lib.Dec.{T, eqb, ltb}
+use lib.ListN.{length, getD, take, drop}
+use lib.Seq.{ext-getD, getD-take, getD-drop}
+use Rattle.lists.specs.Bytes.{Bytes}
+use Rattle.lists.specs.Count.{bit, countFrom, distance}
+use Rattle.lists.specs.Fill.{tabulate}
+use Rattle.lists.proofs.Count.{count-none, distance-self}
+use Rattle.lists.proofs.Fill.{length-tabulate, getD-tabulate}
+use Rattle.lists.proofs.Test.{truth-of}
+use Rattle.codes.specs.Word.{isCode}
+use Rattle.codes.specs.Nearest.{nearest, outcomeOf}
+use Rattle.codes.proofs.Words.{IsCode, code-of-test}
+use Rattle.codes.proofs.Nearest.{nearest-code, outcome-clean}
+use Rattle.annexg.specs.Read.{State, readWord}
+use Rattle.annexg.specs.Sync.{syncTable, codeFor, syncEnd}
+use Rattle.annexg.specs.declared.Reading.{Reading}
+use Rattle.annexg.specs.declared.Reading.the-variants.{Byte, Unknown}
+use Rattle.eccblock.specs.Block.{block}
+use Rattle.eccblock.specs.Parts.{rowOf, columnOf}
+use Rattle.eccblock.specs.Encode.{Accepted}
+use Rattle.eccblock.proofs.Laws.{block-length, block-bytes, block-row, block-column, block-row-code, block-column-code, code-row-bytes, code-row-length, code-column-bytes, code-column-length}
+use Rattle.channel.specs.Block.{frameCodes, codeOf, permittedChoices, permittedStream, halfOf, halfAt, sectorPart, readBlock, farRows, heavyRows}
+use Rattle.channel.proofs.Sectors.{part-half, half-of, half-small, reads-whole}
+use Rattle.channel.proofs.Undisturbed.{SyncAt, word-known, sync-known, permitted-length}
+use Rattle.reader.specs.Sector.{isUnknown, unknownAt, isSync, lostSync, unknownTally, syncTally}
+use Rattle.repairer.specs.Repair.{rowsRepaired, isCorrected, isUncorrectable, tallyOf, talliesOf}
+use Rattle.repairer.specs.Answer.{repairAnswer}
+use Rattle.repairer.specs.declared.Tally.{Tally}
+use Rattle.repairer.specs.declared.Tallies.{Tallies}
+use Rattle.repairer.specs.declared.Repaired.{Repaired}
+use Rattle.repairer.specs.declared.Repaired.the-variants.{Block as RepairedBlock}
+use Rattle.roundtrip.specs.BlockReader.{sectorSum, withSums, blockFits, blockReadAnswer}
+use Rattle.roundtrip.specs.declared.BlockRead.{BlockRead}
+use Rattle.roundtrip.specs.declared.BlockRead.the-variants.{Block}
+use Rattle.roundtrip.proofs.Chain.{handed-out}
+
+abbrev pub noTally : Tally
+noTally = record { corrected = 0; uncorrectable = 0 }
+
+abbrev pub noTallies : Tallies
+noTallies = record { rows = noTally; columns = noTally }
+
+-- ---- the repairer's tallies of a made block
+
+-- ---- the codes due at a SYNC place
+
+or-left : (x y : Bool) → x ≡ true → (x || y) ≡ true
+or-left x y e = ap (λ (t : Bool). t || y) e
+
+or-right : (x y : Bool) → y ≡ true → (x || y) ≡ true
+or-right true y e = refl
+or-right false y e = e
+
+-- States 1 and 2 have one class of SYNC Codes, States 3 and 4 the other
+code-class : (s n : ℕ) (c : Bool) → State s → (codeFor s n c ≡ codeFor 1 n c) ⊎ (codeFor s n c ≡ codeFor 3 n c)
+code-class zero n c h = absurd (omega (arith, h .low))
+code-class (suc zero) n c h = inl refl
+code-class (suc (suc zero)) n c h = inl refl
+code-class (suc (suc (suc zero))) n c h = inr refl
+code-class (suc (suc (suc (suc zero)))) n c h = inr refl
+code-class (suc (suc (suc (suc (suc s))))) n c h = absurd (omega (arith, h .high))
+
+sync-true : (n a b s : ℕ) (c : Bool) → State s → a ≡ codeFor s n c → b ≡ syncEnd → isSync n a b ≡ true
+unfolding isSync
+sync-true n a b s c h e f = ap₂ _&&_ (one-of c (code-class s n c h)) (eq-eqb b syncEnd f)
+  where
+    same : (x : ℕ) → codeFor s n c ≡ x → eqb a x ≡ true
+    same x q = eq-eqb a x (e ∙ q)
+    one-of : (d : Bool) → (codeFor s n c ≡ codeFor 1 n d) ⊎ (codeFor s n c ≡ codeFor 3 n d)
+        → (eqb a (codeFor 1 n false) || (eqb a (codeFor 1 n true) || (eqb a (codeFor 3 n false) || eqb a (codeFor 3 n true)))) ≡ true
+    one-of false (inl q) = or-left (eqb a (codeFor 1 n false)) _ (same (codeFor 1 n false) q)
+    one-of true (inl q) = or-right (eqb a (codeFor 1 n false)) _ (or-left (eqb a (codeFor 1 n true)) _ (same (codeFor 1 n true) q))
+    one-of false (inr q) =
+        or-right (eqb a (codeFor 1 n false)) _ (or-right (eqb a (codeFor 1 n true)) _ (or-left (eqb a (codeFor 3 n false)) _ (same (codeFor 3 n false) q)))
+    one-of true (inr q) =
+        or-right (eqb a (codeFor 1 n false)) _ (or-right (eqb a (codeFor 1 n true)) _ (or-right (eqb a (codeFor 3 n false)) _ (same (codeFor 3 n true) q)))
+
+-- words that are all code words tally nothing
+no-tally : (p t : ℕ) (w : ℕ → List ℕ) (n : ℕ) → ((i : ℕ) → i < n → Bytes (w i) × (isCode p (w i) ≡ true)) → tallyOf p t w n ≡ noTally
+unfolding tallyOf
+no-tally p t w n h =
+    ap₂ (λ (c u : ℕ). record { corrected = c; uncorrectable = u })
+    (count-none (λ i. isCorrected (outcomeOf p t (w i))) 0 n (λ i l. let k : 0 + i ≡ i = omega arith in rw k (ap isCorrected (outcome-clean p t (w i) (h i l .0) (h i l .1)))))
+    (count-none (λ i. isUncorrectable (outcomeOf p t (w i))) 0 n (λ i l. let k : 0 + i ≡ i = omega arith in rw k (ap isUncorrectable (outcome-clean p t (w i) (h i l .0) (h i l .1)))))
+
+module _ (main : List ℕ) (first info : ℕ) (ok : Accepted main first info) where
+  abbrev made : List ℕ
+  made = block main first info
+
+  row-good : (q : ℕ) → q < 208 → Bytes (rowOf made q) × (isCode 10 (rowOf made q) ≡ true)
+  row-good q h = (subst Bytes (sym (block-row main first info ok q h)) (code-row-bytes main first info ok _), block-row-code main first info ok q h)
+
+  column-good : (j : ℕ) → j < 172 → Bytes (columnOf made j) × (isCode 16 (columnOf made j) ≡ true)
+  column-good j h = (subst Bytes (sym (block-column main first info ok j h)) (code-column-bytes main first info ok j), block-column-code main first info ok j (omega arith))
+
+  row-stays : (q : ℕ) → q < 208 → nearest 10 5 (rowOf made q) ≡ rowOf made q
+  row-stays q h =
+      nearest-code 10 5 (rowOf made q) (row-good q h .0)
+      (omega (arith, ap length (block-row main first info ok q h) ∙ code-row-length main first info ok _)) (omega arith)
+      (code-of-test 10 (rowOf made q) (truth-of (isCode 10 (rowOf made q)) (row-good q h .1)))
+
+  rows-stay : rowsRepaired made ≡ made
+  unfolding rowsRepaired
+  rows-stay =
+      let f : ℕ → ℕ = λ p. getD (nearest 10 5 (rowOf made (p / 182))) (p % 182) 0 in
+      ext-getD 0 (tabulate f 37856) made (length-tabulate f 37856 ∙ sym (block-length main first info ok)) (λ p l. each p (rw (length-tabulate f 37856) at l))
+    where
+      each : (p : ℕ) → p < 37856 → getD (tabulate (λ p. getD (nearest 10 5 (rowOf made (p / 182))) (p % 182) 0) 37856) p 0 ≡ getD made p 0
+      each p l =
+          let q = p / 182 in
+          getD-tabulate (λ p. getD (nearest 10 5 (rowOf made (p / 182))) (p % 182) 0) 37856 p l
+          ∙ ap (λ (r : List ℕ). getD r (p % 182) 0) (row-stays q (omega arith))
+          ∙ getD-take 182 (drop (q * 182) made) (p % 182) 0 (omega arith) ∙ getD-drop (q * 182) made (p % 182) 0
+          ∙ ap (λ (x : ℕ). getD made x 0) (omega arith)
+
+  no-tallies : talliesOf made ≡ noTallies
+  unfolding talliesOf
+  no-tallies =
+      ap₂ (λ (r c : Tally). record { rows = r; columns = c }) (no-tally 10 5 (rowOf made) 208 row-good)
+      (ap (λ (ys : List ℕ). tallyOf 16 8 (columnOf ys) 172) rows-stay ∙ no-tally 16 8 (columnOf made) 172 column-good)
+
+  none-far : farRows made made ≡ 0
+  unfolding farRows
+  none-far =
+      count-none (λ r. ltb 5 (distance (rowOf made r) (rowOf made r))) 0 208
+      (λ q l. le-ltb 5 (distance (rowOf made (0 + q)) (rowOf made (0 + q))) (omega (arith, distance-self (rowOf made (0 + q)))))
+
+  -- an undamaged block buffer is handed out, and nothing is tallied
+  pub made-handed-out : repairAnswer made 32768 ≡ RepairedBlock first noTallies
+  made-handed-out =
+      handed-out main first info ok made (block-length main first info ok) (block-bytes main first info ok) (omega (arith, none-far))
+      ∙ ap (RepairedBlock first) no-tallies
+
+  -- ---- the sector reader's tallies of a permitted stream
+
+  module _ (cs : List Bool) (p : T (permittedChoices made cs)) where
+    abbrev laid : List ℕ
+    laid = permittedStream made cs
+
+    known : (k i : ℕ) → k < 16 → i < 2366 → unknownAt (sectorPart laid k) i ≡ false
+    unfolding unknownAt
+    known k i hk hi =
+        let s = half-small i hi in
+        let a = half-of k i in
+        let b : 2418 * k + (halfOf i + 1) ≡ halfOf (2366 * k + i) + 1 = omega (arith, a) in
+        ap isUnknown
+        (ap₂ readWord (part-half laid k (halfOf i) (omega (arith, s)) ∙ ap (halfAt laid) a) (part-half laid k (halfOf i + 1) (omega (arith, s)) ∙ ap (halfAt laid) b)
+        ∙ word-known made cs (block-length main first info ok) (block-bytes main first info ok) p (2366 * k + i) (omega arith))
+
+    unknown-none : (k : ℕ) → k < 16 → unknownTally (sectorPart laid k) ≡ 0
+    unfolding unknownTally
+    unknown-none k hk = count-none (unknownAt (sectorPart laid k)) 0 2366 (λ i l. known k (0 + i) hk (omega arith))
+
+    found : (k f : ℕ) → k < 16 → f < 26 → lostSync (sectorPart laid k) f ≡ false
+    unfolding lostSync codeOf
+    found k f hk hf =
+        let g = 26 * k + f in
+        let s : SyncAt (codeOf g) (halfAt laid (93 * g)) (halfAt laid (93 * g + 1)) =
+        sync-known made cs (block-length main first info ok) (block-bytes main first info ok) p g (omega arith) in
+        let m : g % 26 ≡ f % 26 = omega arith in
+        let n : codeOf g ≡ codeOf f = ap (λ (x : ℕ). getD frameCodes x 0) m in
+        let a : halfAt (sectorPart laid k) (93 * f) ≡ halfAt laid (93 * g) = part-half laid k (93 * f) (omega arith) ∙ ap (halfAt laid) (omega arith) in
+        let b : halfAt (sectorPart laid k) (93 * f + 1) ≡ halfAt laid (93 * g + 1) = part-half laid k (93 * f + 1) (omega arith) ∙ ap (halfAt laid) (omega arith) in
+        ap not (sync-true (codeOf f) (halfAt (sectorPart laid k) (93 * f)) (halfAt (sectorPart laid k) (93 * f + 1)) (s .state) (s .choice) (s .is-state)
+        (a ∙ s .first ∙ ap (λ (x : ℕ). codeFor (s .state) x (s .choice)) n) (b ∙ s .second))
+
+    lost-none : (k : ℕ) → k < 16 → syncTally (sectorPart laid k) ≡ 0
+    unfolding syncTally
+    lost-none k hk = count-none (lostSync (sectorPart laid k)) 0 26 (λ f l. found k (0 + f) hk (omega arith))
+
+    sum-none : (t : List ℕ → ℕ) → ((k : ℕ) → k < 16 → t (sectorPart laid k) ≡ 0) → (n k : ℕ) → k + n ≤ 16 → sectorSum t laid k n ≡ 0
+    unfolding sectorSum
+    sum-none t h zero k l = refl
+    sum-none t h (suc n) k l = ap₂ (λ (x y : ℕ). x + y) (h k (omega arith)) (sum-none t h n (suc k) (omega arith))
+
+    -- THE UNDAMAGED STREAM
+    pub undamaged : blockReadAnswer laid 37856 32768 ≡ Block first noTallies 0 0
+    unfolding blockReadAnswer blockFits
+    undamaged =
+        rw (eq-eqb (length laid) 77380 (permitted-length made cs (block-length main first info ok) p), reads-whole made cs (block-length main first info ok) (block-bytes main first info ok) p, made-handed-out)
+        (ap₂ (Block first noTallies) (sum-none unknownTally unknown-none 16 0 (omega arith)) (sum-none syncTally lost-none 16 0 (omega arith)))
