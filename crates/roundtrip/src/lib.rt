@@ -11,7 +11,10 @@ pub enum BlockRead {
         sync: u32,
     },
     // The first frame that fails, 0 to 15, with the lowest number that applies in it.
-    FrameRefused { number: u8, frame: u8 },
+    FrameRefused {
+        number: u8,
+        frame: u8,
+    },
     // A buffer has another length than stated.
     LengthRefused,
 }

@@ -5,11 +5,6 @@ use Rattle.codes.specs.Parity.{parity}
 use Rattle.ffi.proofs.Lengths.{first-refused, second-refused, done}
 use Rattle.ffi.proofs.codewords.chamanzil_column_parity.Statement.{statement}
 use Rattle.ffi.proofs.codewords.chamanzil_column_parity.Tie as tie
-use Rattle.ffi.proofs.codewords.chamanzil_column_parity.Reads as reads
-use Rattle.ffi.proofs.codewords.chamanzil_column_parity.Lts as lts
-use Rattle.ffi.proofs.codewords.copy.Reads as copy-reads
-use Rattle.field.proofs.log_table.Reads as log-table-reads
-use Rattle.reedsolomon.proofs.parity16_with.Reads as parity16-with-reads
 
 returns : tie.Need-returns
 returns c = let a = c .before .before .before .args in first-refused 192 16 (a .word .now) (a .out .now) (parity 16 (a .word .now)) (c .if1 .taken)

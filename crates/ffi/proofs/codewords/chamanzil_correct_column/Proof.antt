@@ -9,11 +9,6 @@ use borrow.Author.Needs.{needs}
 use Rattle.ffi.proofs.Lengths.{repair-refused, repaired}
 use Rattle.ffi.proofs.codewords.chamanzil_correct_column.Statement.{statement}
 use Rattle.ffi.proofs.codewords.chamanzil_correct_column.Tie as tie
-use Rattle.ffi.proofs.codewords.chamanzil_correct_column.Reads as reads
-use Rattle.ffi.proofs.codewords.chamanzil_correct_column.Lts as lts
-use Rattle.ffi.proofs.codewords.copy.Reads as copy-reads
-use Rattle.ffi.proofs.codewords.outcome_number.Reads as outcome-number-reads
-use Rattle.reedsolomon.proofs.correct_column.Reads as correct-column-reads
 
 returns : tie.Need-returns
 returns c = repair-refused 208 16 8 (c .before .before .args .column .now) (c .if1 .taken)

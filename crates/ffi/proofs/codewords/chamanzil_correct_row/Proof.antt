@@ -9,11 +9,6 @@ use borrow.Author.Needs.{needs}
 use Rattle.ffi.proofs.Lengths.{repair-refused, repaired}
 use Rattle.ffi.proofs.codewords.chamanzil_correct_row.Statement.{statement}
 use Rattle.ffi.proofs.codewords.chamanzil_correct_row.Tie as tie
-use Rattle.ffi.proofs.codewords.chamanzil_correct_row.Reads as reads
-use Rattle.ffi.proofs.codewords.chamanzil_correct_row.Lts as lts
-use Rattle.ffi.proofs.codewords.copy.Reads as copy-reads
-use Rattle.ffi.proofs.codewords.outcome_number.Reads as outcome-number-reads
-use Rattle.reedsolomon.proofs.correct_row.Reads as correct-row-reads
 
 returns : tie.Need-returns
 returns c = repair-refused 182 10 5 (c .before .before .args .row .now) (c .if1 .taken)

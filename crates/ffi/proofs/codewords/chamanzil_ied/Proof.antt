@@ -5,11 +5,6 @@ use Rattle.codes.specs.Parity.{parity}
 use Rattle.ffi.proofs.Lengths.{first-refused, second-refused, done}
 use Rattle.ffi.proofs.codewords.chamanzil_ied.Statement.{statement}
 use Rattle.ffi.proofs.codewords.chamanzil_ied.Tie as tie
-use Rattle.ffi.proofs.codewords.chamanzil_ied.Reads as reads
-use Rattle.ffi.proofs.codewords.chamanzil_ied.Lts as lts
-use Rattle.ffi.proofs.codewords.copy.Reads as copy-reads
-use Rattle.field.proofs.log_table.Reads as log-table-reads
-use Rattle.reedsolomon.proofs.parity2_with.Reads as parity2-with-reads
 
 returns : tie.Need-returns
 returns c = let a = c .before .before .before .args in first-refused 4 2 (a .id .now) (a .out .now) (parity 2 (a .id .now)) (c .if1 .taken)

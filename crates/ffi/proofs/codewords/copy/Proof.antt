@@ -7,8 +7,6 @@ use native.Mathlib.Omega.{arith}
 use borrow.Author.Needs.{needs}
 use Rattle.ffi.proofs.codewords.copy.Statement.{statement}
 use Rattle.ffi.proofs.codewords.copy.Tie as tie
-use Rattle.ffi.proofs.codewords.copy.Reads as reads
-use Rattle.ffi.proofs.codewords.copy.Lts as lts
 
 abbrev Inv-loop : tie.InvT-loop
 Inv-loop from to₀ i₀ to i = (i ≤ length to₀) × Upto (λ k. getD from k 0) to₀ to i
