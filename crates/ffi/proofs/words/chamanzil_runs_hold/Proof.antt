@@ -19,7 +19,7 @@ digit true = refl
 digit false = refl
 
 returns : tie.Need-returns
-returns c = digit _ ∙ ap bit (c .runs-ok .ensures)
+returns c = digit (c .runs-ok .result) ∙ ap bit (c .runs-ok .ensures)
 
 pub chamanzil-runs-hold-spec : {M : Type 1} → statement M
 chamanzil-runs-hold-spec = tie.close (tie.spec runs-ok-requires cast-result returns)
