@@ -3,7 +3,7 @@
 use mathlib.Core.Path.{_≡_, refl, sym, ap, ap₂, _∙_}
 use mathlib.Core.Bool.{Bool}
 use mathlib.Core.List.{List}
-use Prim.Native.Nat.{ℕ, _+_, _≤_}
+use Prim.Native.Nat.{ℕ, _+_, _<_, _≤_}
 use native.Mathlib.Omega.{arith}
 use Rattle.lists.specs.Count.{bit, countFrom}
 use Rattle.lists.proofs.Count.{count-append, count-le}
@@ -49,13 +49,17 @@ module _ (p t : ℕ) (w : ℕ → List ℕ) where
   unfolding tallyOf
   tally-none = refl
 
-  pub tally-corrected : (n : ℕ) → tallyOf p t w n .corrected ≤ n
+  tally-corrected : (n : ℕ) → tallyOf p t w n .corrected ≤ n
   unfolding tallyOf
   tally-corrected n = count-le (λ i. isCorrected (outcomeOf p t (w i))) 0 n
 
-  pub tally-uncorrectable : (n : ℕ) → tallyOf p t w n .uncorrectable ≤ n
+  tally-uncorrectable : (n : ℕ) → tallyOf p t w n .uncorrectable ≤ n
   unfolding tallyOf
   tally-uncorrectable n = count-le (λ i. isUncorrectable (outcomeOf p t (w i))) 0 n
+
+  pub tally-small : (n : ℕ) (m : Tally) → m ≡ tallyOf p t w n → n < 208 → (m .corrected < 208) × (m .uncorrectable < 208)
+  tally-small n m e h =
+      (omega (arith, ap (λ (x : Tally). x .corrected) e, tally-corrected n), omega (arith, ap (λ (x : Tally). x .uncorrectable) e, tally-uncorrectable n))
 
   step : (n : ℕ) → counted (tallyOf p t w n) (outcomeOf p t (w n)) ≡ tallyOf p t w (n + 1)
   unfolding tallyOf

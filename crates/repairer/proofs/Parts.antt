@@ -1,6 +1,6 @@
 -- Buffers that a loop changes from the front on, a part of n entries a turn. Holds for any f.
 -- Assumes nothing.
-use mathlib.Core.Path.{_≡_, refl, ap, _∙_}
+use mathlib.Core.Path.{_≡_, refl, ap, subst, _∙_}
 use mathlib.Core.Bool.{Bool, true, false}
 use mathlib.Core.List.{List}
 use Prim.Native.Nat.{ℕ, _+_, _-_, _<_}
@@ -10,6 +10,9 @@ use lib.Dec.{ltb}
 use lib.ListN.{getD}
 use Rattle.lists.proofs.Fill.{Upto}
 use Rattle.eccblock.specs.Stages.{Stored}
+
+pub stored-same : (at : ℕ → ℕ) (v u old new : List ℕ) (n : ℕ) → v ≡ u → Stored at v old new n → Stored at u old new n
+stored-same at v u old new n e w = subst (λ (x : List ℕ). Stored at x old new n) e w
 
 -- n entries from place a on
 pub upto-part :

@@ -1,3 +1,8 @@
+-- `columns::repair_column` meets its contract: taken out, corrected and stored back. Assumes nothing.
+use mathlib.Core.Path.{_≡_, ap, _∙_}
+use Rattle.codes.specs.Nearest.{nearest, outcomeOf}
+use Rattle.repairer.specs.Steps.{columnPlace}
+use Rattle.repairer.proofs.Parts.{stored-same}
 use borrow.Author.Needs.{needs}
 use Rattle.repairer.proofs.columns.repair_column.Statement.{statement}
 use Rattle.repairer.proofs.columns.repair_column.Tie as tie
@@ -7,25 +12,23 @@ use Rattle.reedsolomon.proofs.correct_column_with.Reads as correct-column-with-
 use Rattle.repairer.proofs.columns.column_at.Reads as column-at-reads
 use Rattle.repairer.proofs.columns.store_column.Reads as store-column-reads
 
--- src/columns.rt:58:9
 column-at-requires : tie.Need-column-at-requires
 column-at-requires c κs = search needs
 
--- src/columns.rt:59:9
 correct-column-with-requires : tie.Need-correct-column-with-requires
 correct-column-with-requires c κs = search needs
 
--- src/columns.rt:67:5
 store-column-requires : tie.Need-store-column-requires
 store-column-requires c κs = search needs
 
--- src/columns.rt:54:1
 same-length : tie.Need-same-length
 same-length c = search needs
 
--- src/columns.rt:54:1
 returns : tie.Need-returns
-returns c = ?
+returns c =
+    let w = c .before .before .before .before .before .before .before .column-at .ensures in
+    let r = c .before .before .before .before .before .before .correct-column-with .ensures in
+    (r .1 ∙ ap (outcomeOf 16 8) w, stored-same (columnPlace (c .before .before .before .before .before .before .before .before .before .before .args .j)) _ _ _ _ 208 (r .0 ∙ ap (nearest 16 8) w) (c .before .before .store-column .ensures))
 
 pub repair-column-spec : {M : Type 1} → statement M
 repair-column-spec =

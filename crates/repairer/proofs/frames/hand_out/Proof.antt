@@ -1,3 +1,11 @@
+-- `frames::hand_out` meets its contract: each turn writes the main data of one frame. Assumes nothing.
+use mathlib.Core.Path.{_≡_, ap, _∙_}
+use Prim.Native.Nat.{_*_, _≤_, _-_}
+use borrow.Author.Needs.{needs}
+use Rattle.lists.proofs.Fill.{Upto, upto-none}
+use Rattle.dataframe.specs.Checks.{unscrambled}
+use Rattle.repairer.proofs.FrameLaws.{mainByte, main-more, main-all}
+use native.Mathlib.Omega.{arith}
 use Rattle.repairer.proofs.frames.hand_out.Statement.{statement}
 use Rattle.repairer.proofs.frames.hand_out.Tie as tie
 use Rattle.repairer.proofs.frames.hand_out.Reads as reads
@@ -7,46 +15,44 @@ use Rattle.eccblock.proofs.frame_at.Reads as frame-at-reads
 use Rattle.repairer.proofs.frames.store_main.Reads as store-main-reads
 
 abbrev Inv-loop : tie.InvT-loop
-Inv-loop b main₀ k₀ main k = ?
+Inv-loop b main₀ k₀ main k = (k ≤ 16) × Upto (mainByte b) main₀ main (k * 2048)
 
 abbrev μ-loop : tie.MeasureT-loop
-μ-loop b main₀ k₀ main k = ?
+μ-loop b main₀ k₀ main k = 16 - k
 
--- src/frames.rt:54:5
 loop-holds : tie.Need-loop-holds Inv-loop μ-loop
-loop-holds c = ?
+loop-holds c = (omega arith, upto-none _ _)
 
--- src/frames.rt:55:39
 frame-at-requires : tie.Need-frame-at-requires Inv-loop μ-loop
-frame-at-requires c κs = ?
+frame-at-requires c κs = search needs
 
--- src/frames.rt:55:17
 unscramble-requires : tie.Need-unscramble-requires Inv-loop μ-loop
-unscramble-requires c κs = ?
+unscramble-requires c κs = search needs
 
--- src/frames.rt:56:9
 store-main-requires : tie.Need-store-main-requires Inv-loop μ-loop
-store-main-requires c κs = ?
+store-main-requires c κs = (c .before .before .before .before .before .loop .inv .1 .same ∙ c .before .before .before .before .before .before .before .before .pre .1, omega arith)
 
--- src/frames.rt:57:9
 add-k : tie.Need-add-k Inv-loop μ-loop
-add-k c = ?
+add-k c = omega arith
 
--- src/frames.rt:54:5
 loop-less : tie.Need-loop-less Inv-loop μ-loop
-loop-less c = ?
+loop-less c = omega arith
 
--- src/frames.rt:54:5
 loop-again : tie.Need-loop-again Inv-loop μ-loop
-loop-again c = ?
+loop-again c =
+    let s = c .before .before .before .before .before .before .before .before .before .before .before in
+    let l = c .before .before .before .before .before .before .before .before .loop in
+    let f = c .before .before .before .before .before .unscramble .ensures ∙ ap unscrambled (c .before .before .before .before .before .before .frame-at .ensures) in
+    (omega arith, main-more (s .args .b .now) _ (l .main) _ _ (l .k) f (c .before .before .store-main .ensures) (l .inv .1))
 
--- src/frames.rt:49:1
 same-length : tie.Need-same-length Inv-loop μ-loop
-same-length c = ?
+same-length c = c .before .loop .inv .1 .same
 
--- src/frames.rt:49:1
 returns : tie.Need-returns Inv-loop μ-loop
-returns c = ?
+returns c =
+    let l = c .before .loop in
+    let e : l .k ≡ 16 = omega arith in
+    main-all (c .before .before .before .before .args .b .now) _ (l .main) (c .before .before .before .before .pre .1) (rw e at (l .inv .1))
 
 pub hand-out-spec : {M : Type 1} → statement M
 hand-out-spec =
