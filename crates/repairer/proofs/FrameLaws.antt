@@ -1,10 +1,10 @@
 -- The frames, one at a time: the judgement, and the main data.
 -- Assumes nothing.
-use mathlib.Core.Path.{_≡_, refl, sym, ap, ap₂, subst, _∙_}
-use mathlib.Core.Bool.{Bool, true, false, cond}
+use mathlib.Core.Path.{_≡_, ap, ap₂, subst, _∙_}
+use mathlib.Core.Bool.{cond}
 use mathlib.Core.List.{List}
 use mathlib.Core.Logic.{_≢_}
-use Prim.Native.Nat.{ℕ, zero, suc, _+_, _*_, _-_, _/_, _%_, _<_}
+use Prim.Native.Nat.{ℕ, suc, _+_, _*_, _-_, _/_, _%_, _<_}
 use native.Mathlib.Numerals.{add-one}
 use native.Mathlib.Omega.{arith}
 use borrow.Author.Tests.{eq-eqb, ne-eqb}
@@ -18,7 +18,7 @@ use Rattle.eccblock.specs.Parts.{frameOf, mainOfBlock}
 use Rattle.repairer.specs.Answer.{frameFault, judged}
 use Rattle.repairer.specs.Steps.{mainPlace}
 use Rattle.repairer.specs.declared.Repaired.{Repaired}
-use Rattle.repairer.specs.declared.Repaired.the-variants.{Block, FrameRefused, LengthRefused}
+use Rattle.repairer.specs.declared.Repaired.the-variants.{FrameRefused}
 use Rattle.repairer.proofs.Parts.{upto-part}
 
 -- ---- the judgement

@@ -9,8 +9,8 @@ ghost use Rattle.eccblock.specs.Stages.{Stored};
 ghost use Rattle.eccblock.specs.Parts.{columnOf};
 ghost use Rattle.repairer.specs.Repair.{columnsRepaired, tallyOf};
 ghost use Rattle.repairer.specs.Steps.{columnPlace};
-use codes::Outcome;
 use crate::Tally;
+use codes::Outcome;
 use reedsolomon::Column;
 
 // The row to which row i moves (ECMA-268, clause 19).

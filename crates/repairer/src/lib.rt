@@ -5,6 +5,7 @@ ghost use lib.ListN.{length};
 ghost use Rattle.repairer.specs.Answer.{repairAnswer, blockAfter, mainAfter, repairNumber};
 ghost use Rattle.repairer.specs.Steps.{counted};
 use codes::Outcome;
+
 mod columns;
 mod frames;
 mod rows;
@@ -53,7 +54,10 @@ pub fn repair_number(r: Repaired) -> u8
     ensures { λ n. ⌜ n ≡ repairNumber r ⌝ }
 {
     match r {
-        Repaired::Block { first: _, tallies: _ } => 0,
+        Repaired::Block {
+            first: _,
+            tallies: _,
+        } => 0,
         Repaired::FrameRefused { number, frame: _ } => number,
         Repaired::LengthRefused => 1,
     }

@@ -8,8 +8,8 @@ ghost use Rattle.eccblock.specs.Stages.{Stored};
 ghost use Rattle.eccblock.specs.Parts.{rowOf};
 ghost use Rattle.repairer.specs.Repair.{rowsRepaired, tallyOf};
 ghost use Rattle.repairer.specs.Steps.{rowPlace};
-use codes::Outcome;
 use crate::Tally;
+use codes::Outcome;
 use reedsolomon::Row;
 
 fn row_at(b: &[u8], q: usize) -> [u8; 182]

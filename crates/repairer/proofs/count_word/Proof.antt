@@ -1,11 +1,8 @@
 -- `count_word` meets its contract. Assumes nothing.
-use mathlib.Core.Path.{_≡_, refl}
 use Rattle.repairer.proofs.Counting.{counted-clean, counted-corrected, counted-uncorrectable}
 use borrow.Author.Needs.{needs}
 use Rattle.repairer.proofs.count_word.Statement.{statement}
 use Rattle.repairer.proofs.count_word.Tie as tie
-use Rattle.repairer.proofs.count_word.Reads as reads
-use Rattle.repairer.proofs.count_word.Lts as lts
 
 enum-told : tie.Need-enum-told
 enum-told c = search needs

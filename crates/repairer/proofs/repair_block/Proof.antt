@@ -4,14 +4,6 @@ use mathlib.Core.Path.{sym, _∙_}
 use borrow.Author.Needs.{needs}
 use Rattle.repairer.proofs.repair_block.Statement.{statement}
 use Rattle.repairer.proofs.repair_block.Tie as tie
-use Rattle.repairer.proofs.repair_block.Reads as reads
-use Rattle.repairer.proofs.repair_block.Lts as lts
-use Rattle.field.proofs.log_table.Reads as log-table-reads
-use Rattle.repairer.proofs.columns.repair_columns.Reads as repair-columns-reads
-use Rattle.repairer.proofs.frames.hand_out.Reads as hand-out-reads
-use Rattle.repairer.proofs.frames.judge_frames.Reads as judge-frames-reads
-use Rattle.repairer.proofs.repair_number.Reads as repair-number-reads
-use Rattle.repairer.proofs.rows.repair_rows.Reads as repair-rows-reads
 
 returns : tie.Need-returns
 returns c = let a = c .before .before .before .args in block-misfits (a .block .now) (a .main .now) (c .if1 .taken)

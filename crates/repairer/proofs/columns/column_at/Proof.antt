@@ -8,9 +8,6 @@ use Rattle.repairer.specs.Steps.{columnPlace}
 use native.Mathlib.Omega.{arith}
 use Rattle.repairer.proofs.columns.column_at.Statement.{statement}
 use Rattle.repairer.proofs.columns.column_at.Tie as tie
-use Rattle.repairer.proofs.columns.column_at.Reads as reads
-use Rattle.repairer.proofs.columns.column_at.Lts as lts
-use Rattle.repairer.proofs.columns.recording_row.Reads as recording-row-reads
 
 abbrev Inv-loop : tie.InvT-loop
 Inv-loop b j w₀ i₀ w i = (i ≤ 208) × (length w₀ ≡ 208) × Upto (λ k. getD b (columnPlace j k) 0) w₀ w i

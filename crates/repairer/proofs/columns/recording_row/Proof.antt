@@ -1,12 +1,10 @@
 -- `columns::recording_row` meets its contract. Assumes nothing.
-use mathlib.Core.Path.{_≡_, sym, ap}
+use mathlib.Core.Path.{sym}
 use Rattle.eccblock.proofs.Order.{recording-low, recording-high}
 use native.Mathlib.Omega.{arith}
 use borrow.Author.Needs.{needs}
 use Rattle.repairer.proofs.columns.recording_row.Statement.{statement}
 use Rattle.repairer.proofs.columns.recording_row.Tie as tie
-use Rattle.repairer.proofs.columns.recording_row.Reads as reads
-use Rattle.repairer.proofs.columns.recording_row.Lts as lts
 
 add-result : tie.Need-add-result
 add-result c = search needs

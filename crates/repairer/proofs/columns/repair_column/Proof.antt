@@ -1,16 +1,11 @@
 -- `columns::repair_column` meets its contract: taken out, corrected and stored back. Assumes nothing.
-use mathlib.Core.Path.{_≡_, ap, _∙_}
+use mathlib.Core.Path.{ap, _∙_}
 use Rattle.codes.specs.Nearest.{nearest, outcomeOf}
 use Rattle.repairer.specs.Steps.{columnPlace}
 use Rattle.repairer.proofs.Parts.{stored-same}
 use borrow.Author.Needs.{needs}
 use Rattle.repairer.proofs.columns.repair_column.Statement.{statement}
 use Rattle.repairer.proofs.columns.repair_column.Tie as tie
-use Rattle.repairer.proofs.columns.repair_column.Reads as reads
-use Rattle.repairer.proofs.columns.repair_column.Lts as lts
-use Rattle.reedsolomon.proofs.correct_column_with.Reads as correct-column-with-reads
-use Rattle.repairer.proofs.columns.column_at.Reads as column-at-reads
-use Rattle.repairer.proofs.columns.store_column.Reads as store-column-reads
 
 column-at-requires : tie.Need-column-at-requires
 column-at-requires c κs = search needs

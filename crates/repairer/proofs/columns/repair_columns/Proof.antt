@@ -9,10 +9,6 @@ use Rattle.repairer.proofs.ColumnLaws.{ColumnsUpto, columns-none, colum
 use native.Mathlib.Omega.{arith}
 use Rattle.repairer.proofs.columns.repair_columns.Statement.{statement}
 use Rattle.repairer.proofs.columns.repair_columns.Tie as tie
-use Rattle.repairer.proofs.columns.repair_columns.Reads as reads
-use Rattle.repairer.proofs.columns.repair_columns.Lts as lts
-use Rattle.repairer.proofs.columns.repair_column.Reads as repair-column-reads
-use Rattle.repairer.proofs.count_word.Reads as count-word-reads
 
 abbrev Inv-loop : tie.InvT-loop
 Inv-loop t b₀ n₀ j₀ b n j = (j ≤ 172) × (n ≡ tallyOf 16 8 (columnOf b₀) j) × ColumnsUpto b₀ b j

@@ -1,6 +1,5 @@
 -- `columns::store_column` meets its contract: each turn stores one byte. Assumes nothing.
 use mathlib.Core.Path.{_≡_, sym, subst}
-use mathlib.Core.List.{List}
 use Prim.Native.Nat.{ℕ, _+_, _*_, _≤_, _-_}
 use lib.ListN.{getD, set}
 use Rattle.eccblock.specs.Stages.{Stored}
@@ -10,9 +9,6 @@ use Rattle.repairer.proofs.ColumnLaws.{column-apart, column-lt}
 use native.Mathlib.Omega.{arith}
 use Rattle.repairer.proofs.columns.store_column.Statement.{statement}
 use Rattle.repairer.proofs.columns.store_column.Tie as tie
-use Rattle.repairer.proofs.columns.store_column.Reads as reads
-use Rattle.repairer.proofs.columns.store_column.Lts as lts
-use Rattle.repairer.proofs.columns.recording_row.Reads as recording-row-reads
 
 abbrev Inv-loop : tie.InvT-loop
 Inv-loop w j b₀ i₀ b i = (i ≤ 208) × Stored (columnPlace j) w b₀ b i

@@ -8,11 +8,6 @@ use Rattle.repairer.proofs.FrameLaws.{mainByte, main-more, main-all}
 use native.Mathlib.Omega.{arith}
 use Rattle.repairer.proofs.frames.hand_out.Statement.{statement}
 use Rattle.repairer.proofs.frames.hand_out.Tie as tie
-use Rattle.repairer.proofs.frames.hand_out.Reads as reads
-use Rattle.repairer.proofs.frames.hand_out.Lts as lts
-use Rattle.dataframe.proofs.unscramble.Reads as unscramble-reads
-use Rattle.eccblock.proofs.frame_at.Reads as frame-at-reads
-use Rattle.repairer.proofs.frames.store_main.Reads as store-main-reads
 
 abbrev Inv-loop : tie.InvT-loop
 Inv-loop b main₀ k₀ main k = (k ≤ 16) × Upto (mainByte b) main₀ main (k * 2048)

@@ -1,23 +1,15 @@
 -- `frames::judge_frames` meets its contract: each turn judges one frame. Assumes nothing.
-use mathlib.Core.Path.{_≡_, refl, sym, ap, ap₂, _∙_}
-use mathlib.Core.List.{List}
+use mathlib.Core.Path.{_≡_, refl, sym, ap, _∙_}
 use Prim.Native.Nat.{ℕ, _≤_, _-_}
 use borrow.Author.Needs.{needs}
-use lib.ListN.{getD}
-use Rattle.dataframe.specs.Checks.{infoOf, numberOf, frameRefusal}
+use Rattle.dataframe.specs.Checks.{numberOf}
 use Rattle.eccblock.specs.Parts.{frameOf}
-use Rattle.repairer.specs.Answer.{frameFault, judged}
+use Rattle.repairer.specs.Answer.{judged}
 use Rattle.repairer.specs.declared.Repaired.the-variants.{Block, FrameRefused}
 use Rattle.repairer.proofs.FrameLaws.{fault-is, frame-passes, frame-fails, judged-none}
 use native.Mathlib.Omega.{arith}
 use Rattle.repairer.proofs.frames.judge_frames.Statement.{statement}
 use Rattle.repairer.proofs.frames.judge_frames.Tie as tie
-use Rattle.repairer.proofs.frames.judge_frames.Reads as reads
-use Rattle.repairer.proofs.frames.judge_frames.Lts as lts
-use Rattle.dataframe.proofs.check_frame.Reads as check-frame-reads
-use Rattle.dataframe.proofs.check_number.Reads as check-number-reads
-use Rattle.dataframe.proofs.sector_number.Reads as sector-number-reads
-use Rattle.eccblock.proofs.frame_at.Reads as frame-at-reads
 
 abbrev Inv-loop : tie.InvT-loop
 Inv-loop t b tallies first info k₀ k = (k ≤ 16) × (judged b 0 16 (Block (numberOf (frameOf b 0)) tallies) ≡ judged b k (16 - k) (Block (numberOf (frameOf b 0)) tallies))

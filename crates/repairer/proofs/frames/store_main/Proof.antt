@@ -9,8 +9,6 @@ use Rattle.repairer.proofs.FrameLaws.{main-byte}
 use native.Mathlib.Omega.{arith}
 use Rattle.repairer.proofs.frames.store_main.Statement.{statement}
 use Rattle.repairer.proofs.frames.store_main.Tie as tie
-use Rattle.repairer.proofs.frames.store_main.Reads as reads
-use Rattle.repairer.proofs.frames.store_main.Lts as lts
 
 abbrev Inv-loop : tie.InvT-loop
 Inv-loop f k main₀ i₀ main i = (i ≤ 2048) × Stored (mainPlace k) (take 2048 (drop 12 f)) main₀ main i

@@ -1,16 +1,11 @@
 -- `rows::repair_row` meets its contract: taken out, corrected and stored back. Assumes nothing.
-use mathlib.Core.Path.{_≡_, ap, _∙_}
+use mathlib.Core.Path.{ap, _∙_}
 use Rattle.codes.specs.Nearest.{nearest, outcomeOf}
 use Rattle.repairer.specs.Steps.{rowPlace}
 use Rattle.repairer.proofs.Parts.{stored-same}
 use borrow.Author.Needs.{needs}
 use Rattle.repairer.proofs.rows.repair_row.Statement.{statement}
 use Rattle.repairer.proofs.rows.repair_row.Tie as tie
-use Rattle.repairer.proofs.rows.repair_row.Reads as reads
-use Rattle.repairer.proofs.rows.repair_row.Lts as lts
-use Rattle.reedsolomon.proofs.correct_row_with.Reads as correct-row-with-reads
-use Rattle.repairer.proofs.rows.row_at.Reads as row-at-reads
-use Rattle.repairer.proofs.rows.store_row.Reads as store-row-reads
 
 row-at-requires : tie.Need-row-at-requires
 row-at-requires c κs = search needs

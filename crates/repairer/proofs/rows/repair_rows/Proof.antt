@@ -10,10 +10,6 @@ use Rattle.repairer.proofs.RowLaws.{rowByte, row-same, rows-more, rows-
 use native.Mathlib.Omega.{arith}
 use Rattle.repairer.proofs.rows.repair_rows.Statement.{statement}
 use Rattle.repairer.proofs.rows.repair_rows.Tie as tie
-use Rattle.repairer.proofs.rows.repair_rows.Reads as reads
-use Rattle.repairer.proofs.rows.repair_rows.Lts as lts
-use Rattle.repairer.proofs.count_word.Reads as count-word-reads
-use Rattle.repairer.proofs.rows.repair_row.Reads as repair-row-reads
 
 abbrev Inv-loop : tie.InvT-loop
 Inv-loop t b₀ n₀ q₀ b n q = (q ≤ 208) × (n ≡ tallyOf 10 5 (rowOf b₀) q) × Upto (rowByte b₀) b₀ b (q * 182)

@@ -8,8 +8,6 @@ use Rattle.repairer.proofs.RowLaws.{row-tabulate}
 use native.Mathlib.Omega.{arith}
 use Rattle.repairer.proofs.rows.row_at.Statement.{statement}
 use Rattle.repairer.proofs.rows.row_at.Tie as tie
-use Rattle.repairer.proofs.rows.row_at.Reads as reads
-use Rattle.repairer.proofs.rows.row_at.Lts as lts
 
 abbrev Inv-loop : tie.InvT-loop
 Inv-loop b q w₀ i₀ w i = (i ≤ 182) × (length w₀ ≡ 182) × Upto (λ k. getD b (rowPlace q k) 0) w₀ w i

@@ -7,8 +7,6 @@ use Rattle.repairer.specs.Steps.{rowPlace}
 use native.Mathlib.Omega.{arith}
 use Rattle.repairer.proofs.rows.store_row.Statement.{statement}
 use Rattle.repairer.proofs.rows.store_row.Tie as tie
-use Rattle.repairer.proofs.rows.store_row.Reads as reads
-use Rattle.repairer.proofs.rows.store_row.Lts as lts
 
 abbrev Inv-loop : tie.InvT-loop
 Inv-loop w q b₀ i₀ b i = (i ≤ 182) × Stored (rowPlace q) w b₀ b i
