@@ -3,7 +3,7 @@
 -- Assumes nothing.
 use mathlib.Core.Bool.{Bool, true, false, cond, _&&_}
 use mathlib.Core.List.{List}
-use Prim.Native.Nat.{ℕ, zero, suc, _+_}
+use Prim.Native.Nat.{ℕ, zero, suc, _+_, _%_}
 use lib.Dec.{eqb}
 use lib.ListN.{length}
 use Rattle.channel.specs.Block.{sectorPart, readBlock}
@@ -12,6 +12,9 @@ use Rattle.repairer.specs.Repair.{repaired}
 use Rattle.repairer.specs.Answer.{repairAnswer, blockAfter, mainAfter}
 use Rattle.repairer.specs.declared.Repaired.{Repaired}
 use Rattle.repairer.specs.declared.Repaired.the-variants.{Block as RepairedBlock, FrameRefused as RepairedRefused, LengthRefused as RepairedLength}
+use Rattle.reader.specs.declared.SectorRead.{SectorRead}
+use Rattle.reader.specs.declared.SectorRead.the-variants.{Sector, LengthRefused as SectorLength}
+use Rattle.roundtrip.specs.declared.Sums.{Sums}
 use Rattle.roundtrip.specs.declared.BlockRead.{BlockRead}
 use Rattle.roundtrip.specs.declared.BlockRead.the-variants.{Block, FrameRefused, LengthRefused}
 
@@ -25,6 +28,11 @@ abbrev pub withSums : Repaired → ℕ → ℕ → BlockRead
 withSums (RepairedBlock first tallies) u s = Block first tallies u s
 withSums (RepairedRefused number frame) u s = FrameRefused number frame
 withSums RepairedLength u s = LengthRefused
+
+-- the sums with one sector more (the vocabulary of inner contracts: nobody needs to believe it)
+abbrev pub addSector : Sums → SectorRead → Sums
+addSector s (Sector unknown sync) = record { unknown = s .unknown + unknown % 65536; sync = s .sync + sync % 65536 }
+addSector s SectorLength = s
 
 -- the lengths that the stream, the block buffer and the main data buffer have to have
 unfoldable pub blockFits : List ℕ → ℕ → ℕ → Bool

@@ -1,0 +1,72 @@
+-- Tallies, one word at a time.
+-- Assumes nothing.
+use mathlib.Core.Path.{_≡_, refl, sym, ap, ap₂, _∙_}
+use mathlib.Core.Bool.{Bool}
+use mathlib.Core.List.{List}
+use Prim.Native.Nat.{ℕ, _+_, _<_, _≤_}
+use native.Mathlib.Omega.{arith}
+use Rattle.lists.specs.Count.{bit, countFrom}
+use Rattle.lists.proofs.Count.{count-append, count-le}
+use Rattle.codes.specs.Nearest.{outcomeOf}
+use Rattle.codes.specs.declared.Outcome.{Outcome}
+use Rattle.codes.specs.declared.Outcome.the-variants.{Clean, Corrected, Uncorrectable}
+use Rattle.repairer.specs.Repair.{isCorrected, isUncorrectable, tallyOf}
+use Rattle.repairer.specs.Steps.{counted}
+use Rattle.repairer.specs.declared.Tally.{Tally}
+
+-- one number more
+pub count-snoc : (f : ℕ → Bool) (n : ℕ) → countFrom f 0 n + bit (f n) ≡ countFrom f 0 (n + 1)
+count-snoc f n =
+    let z : 0 + n ≡ n = omega arith in
+    let a = count-append f 0 n 1 in
+    let b : bit (f (0 + n)) ≡ bit (f n) = ap (λ (x : ℕ). bit (f x)) z in
+    omega (arith, a, b)
+
+abbrev both : ℕ → ℕ → Tally
+both x y = record { corrected = x; uncorrectable = y }
+
+-- ---- the three outcomes
+
+same : (x y : ℕ) → both x y ≡ both (x + 0) (y + 0)
+same x y =
+    let a : x ≡ x + 0 = omega arith in
+    let b : y ≡ y + 0 = omega arith in
+    ap₂ both a b
+
+pub counted-clean : (n : Tally) (o : Outcome) → o ≡ Clean → n ≡ counted n o
+counted-clean n o e = same (n .corrected) (n .uncorrectable) ∙ ap (counted n) (sym e)
+
+pub counted-corrected : (n : Tally) (o : Outcome) → o ≡ Corrected → both (n .corrected + 1) (n .uncorrectable) ≡ counted n o
+counted-corrected n o e = let a : n .uncorrectable ≡ n .uncorrectable + 0 = omega arith in ap (both (n .corrected + 1)) a ∙ ap (counted n) (sym e)
+
+pub counted-uncorrectable : (n : Tally) (o : Outcome) → o ≡ Uncorrectable → both (n .corrected) (n .uncorrectable + 1) ≡ counted n o
+counted-uncorrectable n o e = let a : n .corrected ≡ n .corrected + 0 = omega arith in ap (λ (x : ℕ). both x (n .uncorrectable + 1)) a ∙ ap (counted n) (sym e)
+
+-- ---- one word more
+
+module _ (p t : ℕ) (w : ℕ → List ℕ) where
+  pub tally-none : _≡_ {A = Tally} (record { corrected = 0; uncorrectable = 0 }) (tallyOf p t w 0)
+  unfolding tallyOf
+  tally-none = refl
+
+  tally-corrected : (n : ℕ) → tallyOf p t w n .corrected ≤ n
+  unfolding tallyOf
+  tally-corrected n = count-le (λ i. isCorrected (outcomeOf p t (w i))) 0 n
+
+  tally-uncorrectable : (n : ℕ) → tallyOf p t w n .uncorrectable ≤ n
+  unfolding tallyOf
+  tally-uncorrectable n = count-le (λ i. isUncorrectable (outcomeOf p t (w i))) 0 n
+
+  pub tally-small : (n : ℕ) (m : Tally) → m ≡ tallyOf p t w n → n < 208 → (m .corrected < 208) × (m .uncorrectable < 208)
+  tally-small n m e h =
+      (omega (arith, ap (λ (x : Tally). x .corrected) e, tally-corrected n), omega (arith, ap (λ (x : Tally). x .uncorrectable) e, tally-uncorrectable n))
+
+  step : (n : ℕ) → counted (tallyOf p t w n) (outcomeOf p t (w n)) ≡ tallyOf p t w (n + 1)
+  unfolding tallyOf
+  step n =
+      ap₂ both (count-snoc (λ i. isCorrected (outcomeOf p t (w i))) n)
+      (count-snoc (λ i. isUncorrectable (outcomeOf p t (w i))) n)
+
+  -- the word n, of which o became
+  pub tally-more : (n : ℕ) (m : Tally) (o : Outcome) → m ≡ tallyOf p t w n → o ≡ outcomeOf p t (w n) → counted m o ≡ tallyOf p t w (n + 1)
+  tally-more n m o d e = ap₂ counted d e ∙ step n

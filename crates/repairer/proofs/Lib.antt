@@ -1,0 +1,6 @@
+pub mod Parts
+pub mod Counting
+pub mod RowLaws
+pub mod ColumnLaws
+pub mod FrameLaws
+pub mod Answers

@@ -1,0 +1,68 @@
+-- `columns::repair_columns` meets its contract: each turn repairs one column. Assumes nothing.
+use mathlib.Core.Path.{_≡_, ap, _∙_}
+use Prim.Native.Nat.{_≤_, _-_}
+use Rattle.codes.specs.Nearest.{outcomeOf}
+use Rattle.eccblock.specs.Parts.{columnOf}
+use Rattle.repairer.specs.Repair.{tallyOf}
+use Rattle.repairer.proofs.Counting.{tally-none, tally-small, tally-more}
+use Rattle.repairer.proofs.ColumnLaws.{ColumnsUpto, columns-none, column-same, columns-more, columns-all}
+use native.Mathlib.Omega.{arith}
+use Rattle.repairer.proofs.columns.repair_columns.Statement.{statement}
+use Rattle.repairer.proofs.columns.repair_columns.Tie as tie
+
+abbrev Inv-loop : tie.InvT-loop
+Inv-loop t b₀ n₀ j₀ b n j = (j ≤ 172) × (n ≡ tallyOf 16 8 (columnOf b₀) j) × ColumnsUpto b₀ b j
+
+abbrev μ-loop : tie.MeasureT-loop
+μ-loop t b₀ n₀ j₀ b n j = 172 - j
+
+loop-holds : tie.Need-loop-holds Inv-loop μ-loop
+loop-holds c = (omega arith, tally-none 16 8 _, columns-none _)
+
+repair-column-requires : tie.Need-repair-column-requires Inv-loop μ-loop
+repair-column-requires c κs = (c .before .before .before .before .pre .0, c .before .before .loop .inv .2 .size ∙ c .before .before .before .before .pre .1, omega arith)
+
+count-word-requires : tie.Need-count-word-requires Inv-loop μ-loop
+count-word-requires c κs = let l = c .before .before .before .before .before .loop in tally-small 16 8 (columnOf (c .before .before .before .before .before .before .before .args .b .now)) (l .j) _ (l .inv .1) (omega arith)
+
+add-j : tie.Need-add-j Inv-loop μ-loop
+add-j c = omega arith
+
+loop-less : tie.Need-loop-less Inv-loop μ-loop
+loop-less c = omega arith
+
+loop-again : tie.Need-loop-again Inv-loop μ-loop
+loop-again c =
+    let s = c .before .before .before .before .before .before .before .before in
+    let old = s .args .b .now in
+    let l = c .before .before .before .before .before .before .loop in
+    let r = c .before .before .before .repair-column .ensures in
+    let o = r .0 ∙ ap (outcomeOf 16 8) (column-same old (l .b) (l .j) (omega arith) (l .inv .2)) in (
+      omega arith,
+      c .count-word .ensures ∙ tally-more 16 8 (columnOf old) (l .j) _ _ (l .inv .1) o,
+      columns-more old (l .b) (l .j) (omega arith) (l .inv .2) _ (r .1),
+    )
+
+same-length : tie.Need-same-length Inv-loop μ-loop
+same-length c = c .before .loop .inv .2 .size
+
+returns : tie.Need-returns Inv-loop μ-loop
+returns c =
+    let l = c .before .loop in
+    let e : l .j ≡ 172 = omega arith in
+    (rw e at (l .inv .1), columns-all _ (l .b) (c .before .before .before .pre .1) (rw e at (l .inv .2)))
+
+pub repair-columns-spec : {M : Type 1} → statement M
+repair-columns-spec =
+    tie.close
+    (tie.spec
+    Inv-loop
+    μ-loop
+    loop-holds
+    repair-column-requires
+    count-word-requires
+    add-j
+    loop-less
+    loop-again
+    same-length
+    returns)
