@@ -15,6 +15,16 @@ extern "C" {
     ) -> u32;
     fn chamanzil_correct_row(row: *mut u8, row_len: usize) -> u32;
     fn chamanzil_correct_column(column: *mut u8, column_len: usize) -> u32;
+    fn chamanzil_encode_block(
+        main: *const u8,
+        main_len: usize,
+        first: u32,
+        info: u8,
+        out: *mut u8,
+        out_len: usize,
+    ) -> u32;
+    fn chamanzil_read_word(word: u16, following: u16) -> u32;
+    fn chamanzil_runs_hold(stream: *const u8, stream_len: usize) -> u32;
 }
 
 pub fn product(a: u8, b: u8) -> u8 {
@@ -52,4 +62,18 @@ pub fn fate_number(fate: Fate) -> u32 {
         Fate::Changed => 16,
         Fate::PastHelp => 17,
     }
+}
+
+pub fn encode_block(main: &[u8], first: u32, info: u8, out: &mut [u8]) -> u32 {
+    let (to, size) = (out.as_mut_ptr(), out.len());
+    unsafe { chamanzil_encode_block(main.as_ptr(), main.len(), first, info, to, size) }
+}
+
+pub fn read_word(word: u16, following: u16) -> Option<u8> {
+    let answer = unsafe { chamanzil_read_word(word, following) };
+    u8::try_from(answer).ok()
+}
+
+pub fn runs_hold(stream: &[u8]) -> bool {
+    unsafe { chamanzil_runs_hold(stream.as_ptr(), stream.len()) == 1 }
 }

@@ -1,5 +1,6 @@
 //! Compares the proved library with a second implementation, written from document 01 and ECMA-268. `tests/run` builds and runs it.
 mod block;
+mod blocks_test;
 mod codes_test;
 mod gf;
 mod library;
@@ -13,16 +14,23 @@ mod vectors_test;
 mod writing;
 
 use random::Random;
+use reading::Reader;
 use report::Report;
 use std::path::Path;
 use std::process::ExitCode;
+use tables::Tables;
 
 fn round(report: &mut Report, seed: u64) {
     vectors_test::all(report);
     let mut random = Random::new(seed);
     codes_test::field(report, &mut random);
     codes_test::parities(report, &mut random, 2_000);
-    codes_test::repairs(report, &mut random, 6_000);
+    codes_test::repairs(report, &mut random, 5_000);
+    let (tables, reader) = (Tables::new(), Reader::new());
+    blocks_test::maker(report, &mut random, 1_000);
+    blocks_test::maker_refusals(report, &mut random);
+    blocks_test::words(report, &mut random, &reader);
+    blocks_test::streams(report, &mut random, &tables, 20);
 }
 
 /// `--trial-data FOLDER` writes cases for crate `trials`. `--long [SEED]` runs until stopped or until something differs, with a new seed each round.

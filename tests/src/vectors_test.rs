@@ -4,13 +4,17 @@ use crate::reading::{runs_hold, sheet, Reader};
 use crate::report::Report;
 use crate::tables::Tables;
 use crate::writing::{permitted_stream, write_block, write_sector, Follow, FrameTrace, Record};
-use std::path::PathBuf;
+use std::path::Path;
 
 pub const BLOCKS: [(&str, u32, u8); 3] = [("b1", 0x030000, 0), ("b2", 0, 0x2D), ("z", 0x030000, 0)];
 
+/// A vector, from the data of crate `trials` or, where that program does not use it, from the data here.
 pub fn load(name: &str) -> Vec<u8> {
-    let path = PathBuf::from(env!("CARGO_MANIFEST_DIR")).join("data/vectors").join(name);
-    std::fs::read(&path).unwrap_or_else(|e| panic!("{}: {e}", path.display()))
+    let here = Path::new(env!("CARGO_MANIFEST_DIR"));
+    let folders = ["../crates/trials/data", "data/vectors"];
+    let mut paths = folders.iter().map(|f| here.join(f).join(name));
+    let path = paths.find(|p| p.exists()).unwrap_or_else(|| panic!("no vector {name}"));
+    std::fs::read(path).unwrap()
 }
 
 fn text(name: &str) -> String {

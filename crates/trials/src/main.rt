@@ -2,13 +2,21 @@
 // this folder holds what is due. The cases are in `data/`.
 mod compare;
 
+ghost use Prim.Native.Nat.{_≤_};
 use codes::Outcome;
 use libc::STDOUT_FILENO;
 use reedsolomon::Row;
 
 fn main() {
     trial13();
+    blocks();
+    trial15();
+    informations();
+    lengths();
+    streams();
 }
+
+// ---- files and lines
 
 fn print(text: &[u8]) {
     io::write_all(STDOUT_FILENO, text);
@@ -22,12 +30,52 @@ fn print_number(n: u64) {
 fn open(path: &[u8]) -> i32 {
     let fd = os::open_read(path);
     if fd < 0 {
-        os::fail(path);
+        print(b"NO FILE ");
+        print(path);
+        print(b"\n");
     }
     fd
 }
 
-// Five wrong bytes in a row, repaired; six, only as the rule says. Each case is three rows: the code row, the row as read, the row due.
+// A whole file, which is as long as the buffer.
+fn load(path: &[u8], buf: &mut [u8]) {
+    let fd = open(path);
+    if fd < 0 {
+        return;
+    }
+    let n = io::read_full(fd, buf);
+    let mut more = [0u8; 1];
+    let extra = io::read_full(fd, &mut more);
+    libc::close(fd);
+    if n != buf.len() {
+        print(b"TOO SHORT ");
+        print(path);
+    }
+    if extra != 0 {
+        print(b"TOO LONG ");
+        print(path);
+    }
+}
+
+fn print_verdict(ours: &[u8], due: &[u8]) {
+    if check::same(ours, due) {
+        print(b"as due\n");
+    } else {
+        print(b"NOT AS DUE\n");
+    }
+}
+
+fn print_buffer(after: &[u8], before: &[u8]) {
+    if check::same(after, before) {
+        print(b", buffer left\n");
+    } else {
+        print(b", buffer written\n");
+    }
+}
+
+// ---- trial 13: five wrong bytes in a row, repaired; six, only as the rule says
+
+// Each case is three rows: the code row, the row as read, the row due.
 fn trial13() {
     let fd = open(b"trial13");
     if fd < 0 {
@@ -70,10 +118,131 @@ fn print_outcome(o: Outcome) {
     }
 }
 
-fn print_verdict(ours: &[u8], due: &[u8]) {
-    if check::same(ours, due) {
-        print(b"as due\n");
-    } else {
-        print(b"NOT AS DUE\n");
+// ---- the block maker
+
+fn blocks() {
+    block_case(b"b1.main", b"b1.block", 0x030000, 0x00);
+    block_case(b"b2.main", b"b2.block", 0x000000, 0x2D);
+    block_case(b"z.main", b"z.block", 0x030000, 0x00);
+}
+
+fn block_case(main_path: &[u8], block_path: &[u8], first: u32, info: u8) {
+    let mut main = [0u8; 32768];
+    let mut due = [0u8; 37856];
+    let mut out = [0u8; 37856];
+    load(main_path, &mut main);
+    load(block_path, &mut due);
+    let e = eccblock::encode_block(&main, first, info, &mut out);
+    print(main_path);
+    print(b": answer ");
+    print_number(eccblock::encode_number(e) as u64);
+    print(b", ");
+    print_verdict(&out, &due);
+}
+
+// The number of the first sector: 16,777,200 passes; 16,777,216 and 8 get 2.
+fn trial15() {
+    number_case(16777200);
+    number_case(16777216);
+    number_case(8);
+}
+
+fn number_case(first: u32) {
+    let main = [0u8; 32768];
+    let mut out = [165u8; 37856];
+    let before = out;
+    let e = eccblock::encode_block(&main, first, 0, &mut out);
+    print(b"trial 15: first number ");
+    print_number(first as u64);
+    print(b", answer ");
+    print_number(eccblock::encode_number(e) as u64);
+    print_buffer(&out, &before);
+}
+
+// The answer to each Sector Information byte, 16 to a line; an exclamation mark where a refusal wrote into the buffer.
+fn informations() {
+    print(b"Sector Information 00 to FF:\n");
+    for i in 0..256u32 {
+        information_case((i % 256) as u8);
+        if i % 16 == 15 {
+            print(b"\n");
+        }
     }
+}
+
+fn information_case(info: u8) {
+    let main = [0u8; 32768];
+    let mut out = [165u8; 37856];
+    let before = out;
+    let e = eccblock::encode_block(&main, 0, info, &mut out);
+    let n = eccblock::encode_number(e);
+    print_number(n as u64);
+    if n != 0 {
+        if !check::same(&out, &before) {
+            print(b"!");
+        }
+    }
+}
+
+// Buffers of other lengths, with whatever else is wrong: the lowest number.
+fn lengths() {
+    length_case(32767, 37856, 0, 0);
+    length_case(32769, 37856, 0, 0);
+    length_case(0, 37856, 0, 0);
+    length_case(32768, 37855, 0, 0);
+    length_case(32768, 37857, 0, 0);
+    length_case(32768, 0, 0, 0);
+    length_case(32767, 37856, 8, 0xFF);
+    length_case(32768, 37856, 8, 0xFF);
+    length_case(32768, 37856, 16, 0xFF);
+    length_case(32768, 37856, 16, 0x2D);
+}
+
+fn length_case(n: usize, m: usize, first: u32, info: u8)
+    requires { ⌜ (n ≤ 32769) × (m ≤ 37857) ⌝ }
+{
+    let main = [0u8; 32769];
+    let mut out = [165u8; 37857];
+    let before = out;
+    let e = eccblock::encode_block(&main[..n], first, info, &mut out[..m]);
+    print(b"lengths ");
+    print_number(n as u64);
+    print(b" ");
+    print_number(m as u64);
+    print(b", first number ");
+    print_number(first as u64);
+    print(b", Sector Information ");
+    print_number(info as u64);
+    print(b", answer ");
+    print_number(eccblock::encode_number(e) as u64);
+    print_buffer(&out, &before);
+}
+
+// ---- streams of code bits: their zero runs, and their bytes read back
+
+fn streams() {
+    block_stream(b"b1.rstream", b"b1.block");
+    block_stream(b"b2.rstream", b"b2.block");
+    block_stream(b"b1.stream", b"b1.block");
+    block_stream(b"b2.stream", b"b2.block");
+    block_stream(b"z.stream", b"z.block");
+}
+
+fn block_stream(stream_path: &[u8], block_path: &[u8]) {
+    let mut stream = [0u8; 77380];
+    let mut bytes = [0u8; 37856];
+    load(stream_path, &mut stream);
+    load(block_path, &mut bytes);
+    print(stream_path);
+    print_reading(&stream, &bytes, 0);
+}
+
+fn print_reading(stream: &[u8], bytes: &[u8], after: u16) {
+    if channel::runs_ok(stream) {
+        print(b": runs hold, ");
+    } else {
+        print(b": RUNS DO NOT HOLD, ");
+    }
+    print_number(compare::read_back(stream, bytes, after));
+    print(b" bytes read back\n");
 }
