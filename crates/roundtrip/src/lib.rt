@@ -7,7 +7,6 @@ ghost use Rattle.annexg.specs.Sync.{syncTable};
 ghost use Rattle.channel.specs.Block.{readBlock};
 ghost use Rattle.reader.specs.Sector.{unknownTally, syncTally};
 ghost use Rattle.roundtrip.specs.BlockReader.{sectorSum, withSums, blockReadAnswer, blockReadBlock, blockReadMain, blockReadNumber, addSector};
-
 use reader::SectorRead;
 use repairer::Repaired;
 use repairer::Tallies;

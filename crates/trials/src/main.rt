@@ -2,7 +2,6 @@
 // this folder holds what is due. The cases are in `data/`.
 mod compare;
 
-ghost use Prim.Native.Nat.{_≤_};
 use codes::Outcome;
 use libc::STDOUT_FILENO;
 use reedsolomon::Row;
@@ -186,24 +185,36 @@ fn information_case(info: u8) {
 
 // Buffers of other lengths, with whatever else is wrong: the lowest number.
 fn lengths() {
-    length_case(32767, 37856, 0, 0);
-    length_case(32769, 37856, 0, 0);
-    length_case(0, 37856, 0, 0);
-    length_case(32768, 37855, 0, 0);
-    length_case(32768, 37857, 0, 0);
-    length_case(32768, 0, 0, 0);
-    length_case(32767, 37856, 8, 0xFF);
-    length_case(32768, 37856, 8, 0xFF);
-    length_case(32768, 37856, 16, 0xFF);
-    length_case(32768, 37856, 16, 0x2D);
-}
-
-fn length_case(n: usize, m: usize, first: u32, info: u8)
-    requires { ⌜ (n ≤ 32769) × (m ≤ 37857) ⌝ }
-{
     let main = [0u8; 32769];
     let mut out = [165u8; 37857];
     let before = out;
+    length_case(&main, 32767, 0, 0, &mut out, 37856, &before);
+    length_case(&main, 32769, 0, 0, &mut out, 37856, &before);
+    length_case(&main, 0, 0, 0, &mut out, 37856, &before);
+    length_case(&main, 32768, 0, 0, &mut out, 37855, &before);
+    length_case(&main, 32768, 0, 0, &mut out, 37857, &before);
+    length_case(&main, 32768, 0, 0, &mut out, 0, &before);
+    length_case(&main, 32767, 8, 0xFF, &mut out, 37856, &before);
+    length_case(&main, 32768, 8, 0xFF, &mut out, 37856, &before);
+    length_case(&main, 32768, 16, 0xFF, &mut out, 37856, &before);
+    length_case(&main, 32768, 16, 0x2D, &mut out, 37856, &before);
+}
+
+fn length_case(
+    main: &[u8],
+    n: usize,
+    first: u32,
+    info: u8,
+    out: &mut [u8],
+    m: usize,
+    before: &[u8],
+) {
+    if main.len() < n {
+        return;
+    }
+    if out.len() < m {
+        return;
+    }
     let e = eccblock::encode_block(&main[..n], first, info, &mut out[..m]);
     print(b"lengths ");
     print_number(n as u64);
@@ -215,7 +226,7 @@ fn length_case(n: usize, m: usize, first: u32, info: u8)
     print_number(info as u64);
     print(b", answer ");
     print_number(eccblock::encode_number(e) as u64);
-    print_buffer(&out, &before);
+    print_buffer(out, before);
 }
 
 // ---- streams of code bits: their zero runs, and their bytes read back

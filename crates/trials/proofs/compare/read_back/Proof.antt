@@ -1,66 +1,54 @@
+-- `compare::read_back` meets its contract. Assumes nothing.
+use Prim.Native.Nat.{_≤_, _-_}
+use borrow.Author.Needs.{needs}
+use lib.ListN.{length}
 use Rattle.trials.proofs.compare.read_back.Statement.{statement}
 use Rattle.trials.proofs.compare.read_back.Tie as tie
-use Rattle.trials.proofs.compare.read_back.Reads as reads
-use Rattle.trials.proofs.compare.read_back.Lts as lts
-use Rattle.trials.proofs.compare.is_read.Reads as is-read-reads
 
 abbrev Inv-loop : tie.InvT-loop
-Inv-loop s bytes after n₀ i₀ i-end n i = ?
+Inv-loop s bytes after n₀ i₀ i-end n i = (i ≤ length bytes) × (n ≤ i)
 
 abbrev μ-loop : tie.MeasureT-loop
-μ-loop s bytes after n₀ i₀ i-end n i = ?
+μ-loop s bytes after n₀ i₀ i-end n i = length bytes - i
 
--- src/compare.rt:72:9
 returns : tie.Need-returns Inv-loop μ-loop
-returns c = ?
+returns c = search needs
 
--- src/compare.rt:75:5
 loop-holds : tie.Need-loop-holds Inv-loop μ-loop
-loop-holds c = ?
+loop-holds c = search needs
 
--- src/compare.rt:76:23
 mul-at : tie.Need-mul-at Inv-loop μ-loop
-mul-at c = ?
+mul-at c = search needs
 
--- src/compare.rt:76:23
 add-at : tie.Need-add-at Inv-loop μ-loop
-add-at c = ?
+add-at c = search needs
 
--- src/compare.rt:76:23
 add-at-2 : tie.Need-add-at-2 Inv-loop μ-loop
-add-at-2 c = ?
+add-at-2 c = search needs
 
--- src/compare.rt:76:18
 mul-at-2 : tie.Need-mul-at-2 Inv-loop μ-loop
-mul-at-2 c = ?
+mul-at-2 c = search needs
 
--- src/compare.rt:77:36
 shared-slice-read-is-read : tie.Need-shared-slice-read-is-read Inv-loop μ-loop
-shared-slice-read-is-read c = ?
+shared-slice-read-is-read c = search needs
 
--- src/compare.rt:77:14
 is-read-requires : tie.Need-is-read-requires Inv-loop μ-loop
-is-read-requires c κs = ?
+is-read-requires c κs = search needs
 
--- src/compare.rt:77:9
 add-n : tie.Need-add-n Inv-loop μ-loop
-add-n c = ?
+add-n c = search needs
 
--- src/compare.rt:75:9
 add-i : tie.Need-add-i Inv-loop μ-loop
-add-i c = ?
+add-i c = search needs
 
--- src/compare.rt:75:5
 loop-less : tie.Need-loop-less Inv-loop μ-loop
-loop-less c = ?
+loop-less c = search needs
 
--- src/compare.rt:75:5
 loop-again : tie.Need-loop-again Inv-loop μ-loop
-loop-again c = ?
+loop-again c = search needs
 
--- src/compare.rt:68:1
 returns-2 : tie.Need-returns-2 Inv-loop μ-loop
-returns-2 c = ?
+returns-2 c = search needs
 
 pub read-back-spec : {M : Type 1} → statement M
 read-back-spec =
