@@ -75,6 +75,7 @@ sync-true n a b s c h e f = ap₂ _&&_ (one-of c (code-class s n c h)) (eq-eqb b
   where
     same : (x : ℕ) → codeFor s n c ≡ x → eqb a x ≡ true
     same x q = eq-eqb a x (e ∙ q)
+
     one-of : (d : Bool) → (codeFor s n c ≡ codeFor 1 n d) ⊎ (codeFor s n c ≡ codeFor 3 n d)
         → (eqb a (codeFor 1 n false) || (eqb a (codeFor 1 n true) || (eqb a (codeFor 3 n false) || eqb a (codeFor 3 n true)))) ≡ true
     one-of false (inl q) = or-left (eqb a (codeFor 1 n false)) _ (same (codeFor 1 n false) q)

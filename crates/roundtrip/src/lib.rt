@@ -7,7 +7,6 @@ ghost use Rattle.annexg.specs.Sync.{syncTable};
 ghost use Rattle.channel.specs.Block.{readBlock};
 ghost use Rattle.reader.specs.Sector.{unknownTally, syncTally};
 ghost use Rattle.roundtrip.specs.BlockReader.{sectorSum, withSums, blockReadAnswer, blockReadBlock, blockReadMain, blockReadNumber, addSector};
-
 use reader::SectorRead;
 use repairer::Repaired;
 use repairer::Tallies;
@@ -22,7 +21,10 @@ pub enum BlockRead {
         sync: u32,
     },
     // The first frame that fails, 0 to 15, with the lowest number that applies in it.
-    FrameRefused { number: u8, frame: u8 },
+    FrameRefused {
+        number: u8,
+        frame: u8,
+    },
     // A buffer has another length than stated.
     LengthRefused,
 }
