@@ -22,7 +22,7 @@ use Rattle.channel.specs.Channel.{Item, sync, byte, nextFor, lastFor, al
 use Rattle.channel.proofs.Damage.{sameMarks, disturbed}
 use Rattle.channel.proofs.Entries.{Taken, taken, taken-next}
 
-either-none : (a b : Bool) → _||_ a b ≡ false → (a ≡ false) × (b ≡ false)
+either-none : (a b : Bool) → (a || b) ≡ false → (a ≡ false) × (b ≡ false)
 either-none true b e = let z : b ≡ false = absurd (subst T e tt) in (e, z)
 either-none false b e = (refl, e)
 
@@ -137,7 +137,7 @@ unfolding touched disturbed
 bits-touched ys xs by bx i e =
     let k = halfOf i in
     let t = changed ys xs in
-    let two = either-none (someFrom t (16 * k) 16) (_||_ (t (16 * k + 16)) (t (16 * k + 28))) e in
+    let two = either-none (someFrom t (16 * k) 16) (t (16 * k + 16) || t (16 * k + 28)) e in
     let marks = either-none (t (16 * k + 16)) (t (16 * k + 28)) (two .1) in
     let own = none-at t (16 * k) 16 (two .0) in
     ap not (and-true (eqb (halfAt xs k) (halfAt ys k)) (sameMarks (halfAt xs (k + 1)) (halfAt ys (k + 1)))

@@ -40,16 +40,16 @@ sync-every (suc n) g bs c e (suc (suc k)) t =
     let i : (k - 91) % 93 ≡ 0 = sync-every n (suc g) (drop 91 bs) c (tail-length bs n e) (k - 91) (rw h at (r .1)) in
     omega arith
 
-to-block : (bs : List ℕ) (i n : ℕ) (x : Bool) → length bs ≡ 37856 → T (_||_ x (_&&_ (eqb n 13) (_&&_ (eqb (i % 16) 13) (syncHalf (blockItems bs) (i / 16))))) → T (_||_ x (_&&_ (eqb n 13) (eqb (i % 1488) 13)))
+to-block : (bs : List ℕ) (i n : ℕ) (x : Bool) → length bs ≡ 37856 → T (x || (eqb n 13 && (eqb (i % 16) 13 && syncHalf (blockItems bs) (i / 16)))) → T (x || (eqb n 13 && eqb (i % 1488) 13))
 unfolding blockItems
 to-block bs i n true e t = tt
 to-block bs i n false e t =
     let y = syncHalf (blockItems bs) (i / 16) in
-    let u = and-right (eqb n 13) (_&&_ (eqb (i % 16) 13) y) t in
+    let u = and-right (eqb n 13) (eqb (i % 16) 13 && y) t in
     let a : i % 16 ≡ 13 = eqb→eq (i % 16) 13 (and-left (eqb (i % 16) 13) y u) in
     let b : i / 16 % 93 ≡ 0 = sync-every 416 0 bs 0 e (i / 16) (and-right (eqb (i % 16) 13) y u) in
     let d : i % 1488 ≡ 13 = omega arith in
-    and-both (eqb n 13) (eqb (i % 1488) 13) (and-left (eqb n 13) (_&&_ (eqb (i % 16) 13) y) t) (subst T (sym (eq-eqb (i % 1488) 13 d)) tt)
+    and-both (eqb n 13) (eqb (i % 1488) 13) (and-left (eqb n 13) (eqb (i % 16) 13 && y) t) (subst T (sym (eq-eqb (i % 1488) 13 d)) tt)
 
 runs-frames :
     (n g : ℕ) (bs : List ℕ) (c : ℕ) (cs : List Bool) → length bs ≡ 91 * n → Bytes bs → T (allProper (sync c ∷ [])) → T (permitted 1 0 (frames g n bs ++ sync c ∷ []) cs)

@@ -19,11 +19,11 @@ use Rattle.channel.proofs.Reading.{reads}
 
 -- bits 15 and 3 of two halves are the same
 abbrev pub sameMarks : ℕ → ℕ → Bool
-sameMarks f g = _&&_ (eqb (f / 32768 % 2) (g / 32768 % 2)) (eqb (f / 8 % 2) (g / 8 % 2))
+sameMarks f g = eqb (f / 32768 % 2) (g / 32768 % 2) && eqb (f / 8 % 2) (g / 8 % 2)
 
 -- byte i's own half, or bit 15 or bit 3 of the half after it, is another
 unfoldable pub disturbed : List ℕ → List ℕ → ℕ → Bool
-disturbed ys xs i = not (_&&_ (eqb (halfAt xs (halfOf i)) (halfAt ys (halfOf i))) (sameMarks (halfAt xs (halfOf i + 1)) (halfAt ys (halfOf i + 1))))
+disturbed ys xs i = not (eqb (halfAt xs (halfOf i)) (halfAt ys (halfOf i)) && sameMarks (halfAt xs (halfOf i + 1)) (halfAt ys (halfOf i + 1)))
 
 same-bothZero : (f g : ℕ) → T (sameMarks f g) → bothZero f ≡ bothZero g
 unfolding bothZero
@@ -61,7 +61,7 @@ module _ (s l n g : ℕ) (bs : List ℕ) (i₀ : Item) (end : List Item) (cs : L
       let len : suc (92 * f + suc q) < length items = rw (length-append, frames-length n g bs e) (omega arith) in
       let one = eqb (halfAt xs (halfOf i)) (halfAt (packed o) (halfOf i)) in
       let two = sameMarks (halfAt xs (halfOf i + 1)) (halfAt (packed o) (halfOf i + 1)) in
-      let kept = truth-of (_&&_ one two) (not-false (_&&_ one two) t) in
+      let kept = truth-of (one && two) (not-false (one && two) t) in
       let word : halfAt xs (halfOf i) ≡ getD o (place items (92 * f + suc q)) 0 =
       eqb→eq (halfAt xs (halfOf i)) (halfAt (packed o) (halfOf i)) (and-left one two kept) ∙ half-packed o (halfOf i) ∙ ap (λ (x : ℕ). getD o x 0) (sym at-half) in
       let marks : bothZero (halfAt xs (halfOf i + 1)) ≡ bothZero (getD o (suc (place items (92 * f + suc q))) 0) =

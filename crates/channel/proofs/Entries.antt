@@ -16,7 +16,7 @@ use Rattle.channel.specs.Channel.{byte, entryFor, joinRun, swaps, allowe
 
 -- an entry's word has bits 15 and 3 by its State, and its next State is one
 starts : ℕ → ℕ → Bool
-starts k e = _&&_ (agrees (k % 4 + 1) (bothZero (e / 16))) (inside 1 4 (e % 16))
+starts k e = agrees (k % 4 + 1) (bothZero (e / 16)) && inside 1 4 (e % 16)
 
 module _ (t b s : ℕ) (ht : t < 2) (hb : b * 4 < length (tableOf t)) (hs : s < 4) where
   entry-starts : T (starts (b * 4 + s) (entryOf t b s))
@@ -72,7 +72,7 @@ row-main : (b : ℕ) → b < 256 → b * 4 < length (tableOf 0)
 row-main b h = omega (arith, length-main)
 
 other :
-    (s b : ℕ) (x j : Bool) → ltb b 88 ≡ x → b < 256 → State s → T (_||_ x (_&&_ (swaps s) j))
+    (s b : ℕ) (x j : Bool) → ltb b 88 ≡ x → b < 256 → State s → T (x || (swaps s && j))
     → Taken s b (cond x (entryOf 1 b (s - 1)) (entryOf 0 b (4 - s)))
 other s b true j e hb hs p = own 1 s b (lit< tt) (omega (arith, length-sub, ltb-true b 88 e)) hs
 other s b false j e hb hs p =

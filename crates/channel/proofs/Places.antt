@@ -31,9 +31,9 @@ item-in [] ys j h = absurd (not-suc-le-zero h)
 item-in (x ∷ xs) ys zero h = refl
 item-in (x ∷ xs) ys (suc j) h = item-in xs ys j (le-of-suc-le-suc h)
 
-pub item-past : (xs : List ℕ) (ys : List Item) (j : ℕ) → getD (map byte xs ++ ys) (length xs + j) (sync 0) ≡ getD ys j (sync 0)
-item-past [] ys j = rw zero-add
-item-past (x ∷ xs) ys j = rw (suc-add (length xs) j) (item-past xs ys j)
+pub item-past : (xs : List ℕ) (ys : List Item) (j : ℕ) (d : Item) → getD (map byte xs ++ ys) (length xs + j) d ≡ getD ys j d
+item-past [] ys j d = rw zero-add
+item-past (x ∷ xs) ys j d = rw (suc-add (length xs) j) (item-past xs ys j d)
 
 module _ (bs : List ℕ) (n : ℕ) (e : length bs ≡ 91 * suc n) where
   pub head-length : length (take 91 bs) ≡ 91
@@ -75,7 +75,7 @@ frame-item (suc n) g bs end e (suc f) p hf hp =
     ∙ ap byte (getD-drop 91 bs (91 * f + p) 0 ∙ ap (λ (x : ℕ). getD bs x 0) m))
   where
     past : getD (map byte (take 91 bs) ++ (frames (suc g) n (drop 91 bs) ++ end)) (91 + (92 * f + suc p)) (sync 0) ≡ getD (frames (suc g) n (drop 91 bs) ++ end) (92 * f + suc p) (sync 0)
-    past = rw (head-length bs n e) at (item-past (take 91 bs) (frames (suc g) n (drop 91 bs) ++ end) (92 * f + suc p))
+    past = rw (head-length bs n e) at (item-past (take 91 bs) (frames (suc g) n (drop 91 bs) ++ end) (92 * f + suc p) (sync 0))
 
 pub frames-length : (n g : ℕ) (bs : List ℕ) → length bs ≡ 91 * n → length (frames g n bs) ≡ 92 * n
 unfolding frames

@@ -12,8 +12,9 @@ use Rattle.lists.specs.Bytes.{Bytes}
 use Rattle.lists.specs.Count.{countFrom, distance}
 use Rattle.lists.specs.Fill.{tabulateFrom}
 use Rattle.lists.proofs.Fill.{length-tabulateFrom, getD-tabulateFrom}
-use Rattle.channel.specs.Block.{frames, blockItems, closed, permittedChoices, permittedStream, readAt, touched, rowOf, touchedIn}
-use Rattle.channel.specs.Channel.{sync, allProper}
+use Rattle.annexg.specs.Read.{State}
+use Rattle.channel.specs.Block.{frames, blockItems, packed, closed, permittedChoices, permittedStream, readAt, touched, rowOf, touchedIn}
+use Rattle.channel.specs.Channel.{Item, sync, permitted, stream, allProper}
 use Rattle.channel.proofs.BitsTouched.{bits-touched, stream-bytes}
 use Rattle.channel.proofs.Damage.{reading-frames, distance-count}
 use Rattle.channel.proofs.Places.{proper-append, frames-proper}
@@ -25,13 +26,21 @@ block-bytes bs cs e hb p =
     stream-bytes 1 0 (frames 0 416 bs ++ sync 0 ∷ []) (closed cs) (proper-append (frames 0 416 bs) (sync 0 ∷ []) (frames-proper 416 0 bs e hb) (unfold allProper in tt))
     (record { low = omega arith; high = omega arith }) p
 
+-- READING. Frames from any State and after any half word, with an item after them, are laid by permitted choices, and any bytes xs are read instead: a byte
+-- that is not touched is read as it was
+module _ (s l n g : ℕ) (bs : List ℕ) (i₀ : Item) (end : List Item) (cs : List Bool) (e : length bs ≡ 91 * n) (hb : Bytes bs) (he : T (allProper (i₀ ∷ end)))
+    (hs : State s) (p : T (permitted s l (frames g n bs ++ i₀ ∷ end) cs)) where
+  pub reading-any : (xs : List ℕ) → Bytes xs → (i : ℕ) → i < 91 * n → touched (packed (stream s (frames g n bs ++ i₀ ∷ end) cs)) xs i ≡ false → readAt xs i ≡ getD bs i 0
+  reading-any xs hx i hi t =
+      let ys = packed (stream s (frames g n bs ++ i₀ ∷ end) cs) in
+      let by = stream-bytes s l (frames g n bs ++ i₀ ∷ end) cs (proper-append (frames g n bs) (i₀ ∷ end) (frames-proper n g bs e hb) he) hs p in
+      reading-frames s l n g bs i₀ end cs e hb he hs p xs i hi (bits-touched ys xs by hx i t)
+
 module _ (bs : List ℕ) (cs : List Bool) (xs : List ℕ) (e : length bs ≡ 37856) (hb : Bytes bs) (p : T (permittedChoices bs cs)) (hx : Bytes xs) where
-  -- a byte of a block that is not touched is read as it was
+  -- READING in a block, at the place where the sector reader looks
   pub reading : (i : ℕ) → i < 37856 → touched (permittedStream bs cs) xs i ≡ false → readAt xs i ≡ getD bs i 0
   unfolding blockItems
-  reading i hi t =
-      reading-frames 1 0 416 0 bs (sync 0) [] (closed cs) e hb (unfold allProper in tt) (record { low = omega arith; high = omega arith }) p xs i hi
-      (bits-touched (permittedStream bs cs) xs (block-bytes bs cs e hb p) hx i t)
+  reading i hi t = reading-any 1 0 416 0 bs (sync 0) [] (closed cs) e hb (unfold allProper in tt) (record { low = omega arith; high = omega arith }) p xs hx i hi t
 
   -- a row that is read differs from the row that was laid in at most its touched bytes
   pub row-damage : (r : ℕ) → r < 208 → distance (tabulateFrom (readAt xs) (r * 182) 182) (rowOf bs r) ≤ touchedIn (permittedStream bs cs) xs r

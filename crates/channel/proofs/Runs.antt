@@ -23,13 +23,13 @@ use Rattle.channel.proofs.Reading.{next-state}
 
 --- a ONE at bit e after r ZEROs; `m e` says that a run of thirteen may end there
 fine : (ℕ → Bool) → ℕ → ℕ → Bool
-fine m e r = _||_ (inside 2 10 r) (_&&_ (eqb r 13) (m e))
+fine m e r = inside 2 10 r || (eqb r 13 && m e)
 
 -- every run of the bits that a ONE ends, the first bit being bit p, after r ZEROs
 walk : (ℕ → Bool) → ℕ → ℕ → List ℕ → Bool
 walk m p r [] = true
 walk m p r (zero ∷ bs) = walk m (suc p) (suc r) bs
-walk m p r (suc x ∷ bs) = _&&_ (fine m p r) (walk m (suc p) 0 bs)
+walk m p r (suc x ∷ bs) = fine m p r && walk m (suc p) 0 bs
 
 -- the ZEROs passed since the last ONE, after the bits
 after : ℕ → List ℕ → ℕ
@@ -69,8 +69,8 @@ walk-append m (zero ∷ xs) ys p r g t =
     walk-append m xs ys (suc p) (suc r) g (subst (λ (x : ℕ). T (walk m x (after (suc r) xs) ys)) e t)
 walk-append m (suc x ∷ xs) ys p r g t =
     let e : p + suc (length xs) ≡ suc p + length xs = omega arith in
-    and-both (_||_ (inside 2 10 r) (_&&_ (eqb r 13) (m p))) (walk m (suc p) 0 (xs ++ ys))
-    (or-left (inside 2 10 r) (_&&_ (eqb r 13) (m p)) (and-left (inside 2 10 r) (innerFrom 0 xs) g))
+    and-both (inside 2 10 r || (eqb r 13 && m p)) (walk m (suc p) 0 (xs ++ ys))
+    (or-left (inside 2 10 r) (eqb r 13 && m p) (and-left (inside 2 10 r) (innerFrom 0 xs) g))
     (walk-append m xs ys (suc p) 0 (and-right (inside 2 10 r) (innerFrom 0 xs) g) (subst (λ (y : ℕ). T (walk m y (after 0 xs) ys)) e t))
 
 -- the ZEROs at the end of a half before State s
@@ -84,14 +84,14 @@ ends (suc (suc (suc (suc (suc s))))) r = false
 
 -- a half after r ZEROs: its runs are 2 to 10, and it ends in e ZEROs
 goes : ℕ → ℕ → ℕ → Bool
-goes r h e = _&&_ (innerFrom r (bitsOf 16 h)) (eqb (after r (bitsOf 16 h)) e)
+goes r h e = innerFrom r (bitsOf 16 h) && eqb (after r (bitsOf 16 h)) e
 
 -- a word of the column of State s goes after r ZEROs, where they fit the State, or where the run across the join is 2 to 10
 try : ℕ → ℕ → ℕ → Bool
-try s w r = cond (_||_ (ends s r) (inside 2 10 (r + lead (bitsOf 16 w)))) (goes r w (trail w)) true
+try s w r = cond (ends s r || inside 2 10 (r + lead (bitsOf 16 w))) (goes r w (trail w)) true
 
 joins : ℕ → ℕ → Bool
-joins k e = _&&_ (ends (e % 16) (trail (e / 16))) (below 10 (try (k % 4 + 1) (e / 16)))
+joins k e = ends (e % 16) (trail (e / 16)) && below 10 (try (k % 4 + 1) (e / 16))
 
 picked : (a b : Bool) → T (cond a b true) → T a → T b
 picked true b t h = t
@@ -107,14 +107,14 @@ module _ (t b k : ℕ) (ht : t < 2) (hb : b * 4 < length (tableOf t)) (hk : k < 
   entry-ends =
       and-left (ends (entryOf t b k % 16) (trail (entryOf t b k / 16))) (below 10 (try ((b * 4 + k) % 4 + 1) (entryOf t b k / 16))) entry-joins
 
-  entry-goes : (r : ℕ) → r < 10 → T (_||_ (ends (k + 1) r) (inside 2 10 (r + lead (bitsOf 16 (entryOf t b k / 16)))))
+  entry-goes : (r : ℕ) → r < 10 → T (ends (k + 1) r || inside 2 10 (r + lead (bitsOf 16 (entryOf t b k / 16))))
       → T (goes r (entryOf t b k / 16) (trail (entryOf t b k / 16)))
   unfolding joins try
   entry-goes r hr a =
       let w = entryOf t b k / 16 in
       let c = column-is b k hk in
       let u = and-right (ends (entryOf t b k % 16) (trail (entryOf t b k / 16))) (below 10 (try ((b * 4 + k) % 4 + 1) (entryOf t b k / 16))) entry-joins in
-      picked (_||_ (ends (k + 1) r) (inside 2 10 (r + lead (bitsOf 16 w)))) (goes r w (trail w))
+      picked (ends (k + 1) r || inside 2 10 (r + lead (bitsOf 16 w))) (goes r w (trail w))
       (subst (λ (n : ℕ). T (try n w r)) c (below-at 10 (try ((b * 4 + k) % 4 + 1) w) u r hr)) a
 
 -- the ZEROs before a State are below ten
@@ -132,7 +132,7 @@ ends-small (suc (suc (suc (suc (suc s))))) r t = absurd t
 
 -- the first half of a SYNC Code goes after what fits a State of its class, and ends in two ZEROs
 tryCode : ℕ → ℕ → ℕ → Bool
-tryCode c h r = cond (_||_ (ends (c * 2 + 1) r) (ends (c * 2 + 2) r)) (goes r h 2) true
+tryCode c h r = cond (ends (c * 2 + 1) r || ends (c * 2 + 2) r) (goes r h 2) true
 
 codes : ℕ → ℕ → Bool
 codes k h = below 10 (tryCode (k / 16) h)
@@ -151,13 +151,13 @@ code-goes : (s n : ℕ) (c : Bool) (r : ℕ) → State s → n < 8 → T (ends s
 unfolding tryCode
 code-goes zero n c r hs hn e = absurd (omega arith)
 code-goes (suc zero) n c r hs hn e =
-    picked (_||_ (ends 1 r) (ends 2 r)) (goes r (codeFor 1 n c) 2) (code-tries 1 n c hs hn r (ends-small 1 r e)) (or-left (ends 1 r) (ends 2 r) e)
+    picked (ends 1 r || ends 2 r) (goes r (codeFor 1 n c) 2) (code-tries 1 n c hs hn r (ends-small 1 r e)) (or-left (ends 1 r) (ends 2 r) e)
 code-goes (suc (suc zero)) n c r hs hn e =
-    picked (_||_ (ends 1 r) (ends 2 r)) (goes r (codeFor 2 n c) 2) (code-tries 2 n c hs hn r (ends-small 2 r e)) (or-right (ends 1 r) (ends 2 r) e)
+    picked (ends 1 r || ends 2 r) (goes r (codeFor 2 n c) 2) (code-tries 2 n c hs hn r (ends-small 2 r e)) (or-right (ends 1 r) (ends 2 r) e)
 code-goes (suc (suc (suc zero))) n c r hs hn e =
-    picked (_||_ (ends 3 r) (ends 4 r)) (goes r (codeFor 3 n c) 2) (code-tries 3 n c hs hn r (ends-small 3 r e)) (or-left (ends 3 r) (ends 4 r) e)
+    picked (ends 3 r || ends 4 r) (goes r (codeFor 3 n c) 2) (code-tries 3 n c hs hn r (ends-small 3 r e)) (or-left (ends 3 r) (ends 4 r) e)
 code-goes (suc (suc (suc (suc zero)))) n c r hs hn e =
-    picked (_||_ (ends 3 r) (ends 4 r)) (goes r (codeFor 4 n c) 2) (code-tries 4 n c hs hn r (ends-small 4 r e)) (or-right (ends 3 r) (ends 4 r) e)
+    picked (ends 3 r || ends 4 r) (goes r (codeFor 4 n c) 2) (code-tries 4 n c hs hn r (ends-small 4 r e)) (or-right (ends 3 r) (ends 4 r) e)
 code-goes (suc (suc (suc (suc (suc s))))) n c r hs hn e = absurd (omega arith)
 
 -- an entry e after r ZEROs: its word goes, and ends as its next State wants
@@ -177,7 +177,7 @@ own-goes t s b r ht hb hs he =
 
 other-goes :
     (s l b : ℕ) (x : Bool) → ltb b 88 ≡ x → b < 256 → State s → T (ends s (trail l))
-    → T (_||_ x (_&&_ (swaps s) (inside 2 10 (joinRun l (cond x (entryOf 1 b (s - 1)) (entryOf 0 b (4 - s)) / 16)))))
+    → T (x || (swaps s && inside 2 10 (joinRun l (cond x (entryOf 1 b (s - 1)) (entryOf 0 b (4 - s)) / 16))))
     → Goes (trail l) (cond x (entryOf 1 b (s - 1)) (entryOf 0 b (4 - s)))
 unfolding joinRun
 other-goes s l b true e hb hs he p = own-goes 1 s b (trail l) (lit< tt) (omega (arith, length-sub, ltb-true b 88 e)) hs he
@@ -235,7 +235,7 @@ walk-stream m s l (byte b ∷ is) (c ∷ cs) p hp hs he a g =
 
 -- a run of thirteen may end at bit e
 thirteen : List Item → ℕ → Bool
-thirteen is e = _&&_ (eqb (e % 16) 11) (syncHalf is (e / 16 - 1))
+thirteen is e = eqb (e % 16) 11 && syncHalf is (e / 16 - 1)
 
 thirteen-at : (is : List Item) (k : ℕ) → T (syncHalf is k) → T (thirteen is (0 + 16 * k + 27))
 unfolding thirteen
@@ -244,18 +244,18 @@ thirteen-at is k h =
     let f : k ≡ (0 + 16 * k + 27) / 16 - 1 = omega arith in
     and-both (eqb ((0 + 16 * k + 27) % 16) 11) (syncHalf is ((0 + 16 * k + 27) / 16 - 1)) (subst T (sym (eq-eqb ((0 + 16 * k + 27) % 16) 11 e)) tt) (subst (λ (x : ℕ). T (syncHalf is x)) f h)
 
-fine-fits : (is : List Item) (i n : ℕ) (x : Bool) → T (_||_ x (_&&_ (eqb n 13) (thirteen is (0 + i + suc n)))) → T (_||_ x (_&&_ (eqb n 13) (_&&_ (eqb (i % 16) 13) (syncHalf is (i / 16)))))
+fine-fits : (is : List Item) (i n : ℕ) (x : Bool) → T (x || (eqb n 13 && thirteen is (0 + i + suc n))) → T (x || (eqb n 13 && (eqb (i % 16) 13 && syncHalf is (i / 16))))
 unfolding thirteen
 fine-fits is i n true t = tt
 fine-fits is i n false t =
     let e = 0 + i + suc n in
-    let h = and-left (eqb n 13) (_&&_ (eqb (e % 16) 11) (syncHalf is (e / 16 - 1))) t in
-    let g = and-right (eqb n 13) (_&&_ (eqb (e % 16) 11) (syncHalf is (e / 16 - 1))) t in
+    let h = and-left (eqb n 13) (eqb (e % 16) 11 && syncHalf is (e / 16 - 1)) t in
+    let g = and-right (eqb n 13) (eqb (e % 16) 11 && syncHalf is (e / 16 - 1)) t in
     let n13 : n ≡ 13 = eqb→eq n 13 h in
     let e11 : e % 16 ≡ 11 = eqb→eq (e % 16) 11 (and-left (eqb (e % 16) 11) (syncHalf is (e / 16 - 1)) g) in
     let i13 : i % 16 ≡ 13 = omega arith in
     let k : e / 16 - 1 ≡ i / 16 = omega arith in
-    and-both (eqb n 13) (_&&_ (eqb (i % 16) 13) (syncHalf is (i / 16))) h
+    and-both (eqb n 13) (eqb (i % 16) 13 && syncHalf is (i / 16)) h
     (and-both (eqb (i % 16) 13) (syncHalf is (i / 16)) (subst T (sym (eq-eqb (i % 16) 13 i13)) tt)
     (subst (λ (x : ℕ). T (syncHalf is x)) k (and-right (eqb (e % 16) 11) (syncHalf is (e / 16 - 1)) g)))
 
