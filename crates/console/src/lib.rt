@@ -4,8 +4,8 @@ ghost use mathlib.Core.Path.{_≡_};
 ghost use lib.ListN.{length};
 ghost use Rattle.writer.specs.Records.{start};
 ghost use Rattle.writer.specs.Answers.{number, sectorRefusal, sectorNext, sectorOut, closingRefusal, closingNext, closingOut};
-use writer::Record;
 use writer::Answer;
+use writer::Record;
 
 // A new record, whatever the old one was.
 pub fn new_record(kept: &mut Record)
@@ -16,11 +16,9 @@ pub fn new_record(kept: &mut Record)
 
 // A sector of 2,366 bytes, laid as 4,836.
 pub fn write(kept: &mut Record, bytes: &[u8], out: &mut [u8]) -> Answer
-    ensures {
-        λ a. ⌜ (number a ≡ sectorRefusal (now (kept .entry)) (length (now (bytes .entry))) (length (now (out .entry))))
-            × ((now (kept .exit) ≡ sectorNext (now (kept .entry)) (now (bytes .entry)) (length (now (out .entry))))
-            × (now (out .exit) ≡ sectorOut (now (kept .entry)) (now (bytes .entry)) (now (out .entry)))) ⌝
-    }
+    ensures { λ a. ⌜ (number a ≡ sectorRefusal (now (kept .entry)) (length (now (bytes .entry))) (length (now (out .entry))))
+        × ((now (kept .exit) ≡ sectorNext (now (kept .entry)) (now (bytes .entry)) (length (now (out .entry))))
+        × (now (out .exit) ≡ sectorOut (now (kept .entry)) (now (bytes .entry)) (now (out .entry)))) ⌝ }
 {
     let s = writer::write_sector(*kept, bytes, out);
     *kept = s.next;
@@ -29,11 +27,9 @@ pub fn write(kept: &mut Record, bytes: &[u8], out: &mut [u8]) -> Answer
 
 // The closing code, 4 bytes.
 pub fn close(kept: &mut Record, out: &mut [u8]) -> Answer
-    ensures {
-        λ a. ⌜ (number a ≡ closingRefusal (now (kept .entry)) (length (now (out .entry))))
-            × ((now (kept .exit) ≡ closingNext (now (kept .entry)) (length (now (out .entry))))
-            × (now (out .exit) ≡ closingOut (now (kept .entry)) (now (out .entry)))) ⌝
-    }
+    ensures { λ a. ⌜ (number a ≡ closingRefusal (now (kept .entry)) (length (now (out .entry))))
+        × ((now (kept .exit) ≡ closingNext (now (kept .entry)) (length (now (out .entry))))
+        × (now (out .exit) ≡ closingOut (now (kept .entry)) (now (out .entry)))) ⌝ }
 {
     let s = writer::close(*kept, out);
     *kept = s.next;

@@ -1,7 +1,7 @@
 -- Frames, sectors and blocks by the two-stream rule are permitted streams of their items.
 -- Assumes nothing.
 use mathlib.Core.Path.{_≡_, refl, sym, ap, ap₂, subst, _∙_}
-use mathlib.Core.Bool.{Bool, false}
+use mathlib.Core.Bool.{false}
 use mathlib.Core.List.{List, [], _∷_, _++_, map, append-assoc, append-nil}
 use Prim.Native.Nat.{ℕ, zero, suc, _+_, _*_}
 use native.Mathlib.Nat.{zero-add, suc-add, add-zero}
@@ -12,7 +12,7 @@ use lib.Seq.{take-take, drop-drop, take-nil}
 use Rattle.channel.specs.Block.{frameCodes, codeOf, frames, sectorItems, blockItems, closed, packed, permittedChoices, permittedStream}
 use Rattle.channel.specs.Channel.{Item, sync, byte, permitted, stream}
 use Rattle.channel.specs.declared.Run.{Run}
-use Rattle.streams.specs.Frames.{joined, framesOf, sectorOf, sectorsOf, closingOf, blockOf}
+use Rattle.streams.specs.Frames.{joined, framesOf, sectorOf, sectorsOf, closingOf, blockOf, choicesOf}
 use Rattle.streams.specs.Streams.{Stream, fresh, lay, frameItems, frameOf}
 use Rattle.streams.proofs.Laid.{Laid, laidBy, extended, laid-fresh, laid-lay, laid-join, frame-laid}
 
@@ -112,9 +112,6 @@ unfolding blockOf blockItems
 block-laid r bs = let m = sectorsOf r bs 16 in laid-join r (frames 0 416 bs) m (closingOf (m .run)) 0 [] (sectors-laid r bs 16) (closing-laid (m .run))
 
 -- PERMITTED: the choices of the rule over a block that starts at State 1 are permitted, whatever the bytes, and what it lays is their permitted stream
-pub choicesOf : Run → List ℕ → List Bool
-choicesOf r bs = sectorsOf r bs 16 .choices
-
 module _ (r : Run) (bs : List ℕ) (e : r .state ≡ 1) where
   pub block-permitted : T (permittedChoices bs (choicesOf r bs))
   unfolding choicesOf blockOf lay

@@ -3,7 +3,7 @@
 use mathlib.Core.Path.{_≡_, refl, sym, ap, ap₂, subst, _∙_}
 use mathlib.Core.Bool.{Bool, true, false, not, cond, _&&_, _||_}
 use mathlib.Core.List.{List, [], _∷_, _++_, map, append-assoc, append-nil}
-use Prim.Native.Nat.{ℕ, zero, suc, _+_, _-_, _/_}
+use Prim.Native.Nat.{ℕ, zero, suc, _-_, _/_}
 use native.Mathlib.Omega.{arith}
 use borrow.Author.Tests.{ne-eqb}
 use lib.Dec.{T, eqb, ltb, leb}
@@ -169,7 +169,7 @@ step-laid a is t b h = by (ltb b 88) (swapMade t b) refl refl
 
     by : (x y : Bool) → ltb b 88 ≡ x → swapMade t b ≡ y
         → Both a (is ++ (byte b ∷ []))
-          (cond x (copied (lower t) b false true) (cond y (copied (lower t) b (eqb (lower t .run .state) 4) (eqb (lower t .run .state) 1)) (kept t b)))
+        (cond x (copied (lower t) b false true) (cond y (copied (lower t) b (eqb (lower t .run .state) 4) (eqb (lower t .run .state) 1)) (kept t b)))
     by true y p q = copied-laid a is (lower t) b false true low tt (small-allowed (lower t .run .state) (lower t .last) b p)
     by false true p q = swapped-laid a is (lower t) b low p (sym (swap-lower t b) ∙ q)
     by false false p q = record { first = laid-lay a is (t .one) (byte b) false (h .first) tt; second = laid-lay a is (t .two) (byte b) false (h .second) tt }

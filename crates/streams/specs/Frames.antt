@@ -1,6 +1,6 @@
 -- Frames, sectors and blocks by the two-stream rule: each frame starts from the running record that the one before it left. The DSV is never reset.
 -- Assumes nothing.
-use mathlib.Core.Bool.{false}
+use mathlib.Core.Bool.{Bool, false}
 use mathlib.Core.List.{List, _++_}
 use Prim.Native.Nat.{ℕ, zero, suc, _*_}
 use lib.ListN.{take, drop}
@@ -38,3 +38,7 @@ closingOf r = lay (fresh r) (sync 0) false
 -- the sixteen sectors of a block and the closing code
 unfoldable pub blockOf : Run → List ℕ → Stream
 blockOf r bs = let m = sectorsOf r bs 16 in joined m (closingOf (m .run))
+
+-- the choices that the rule takes over the sixteen sectors
+unfoldable pub choicesOf : Run → List ℕ → List Bool
+choicesOf r bs = sectorsOf r bs 16 .choices

@@ -2,32 +2,30 @@
 -- Assumes nothing.
 use mathlib.Core.Path.{_≡_, refl, sym, ap, ap₂, subst, _∙_}
 use mathlib.Core.Bool.{Bool, true, false, not, cond, _&&_, _||_}
-use mathlib.Core.List.{List, [], _∷_, _++_}
+use mathlib.Core.List.{List, _++_}
 use Prim.Native.Nat.{ℕ, zero, suc, _+_, _*_, _<_, _≤_}
 use native.Mathlib.Omega.{arith}
 use borrow.Author.Tests.{eq-eqb, eqb-true, lt-leb, le-leb}
 use lib.Dec.{T, eqb, leb}
-use lib.IntN.{natAbs}
 use lib.ListN.{length, take, drop, length-take, length-drop}
 use Rattle.lists.specs.Bytes.{Bytes}
 use Rattle.lists.specs.Count.{bit}
 use Rattle.lists.proofs.Bytes.{take-bytes, drop-bytes}
-use Rattle.lists.proofs.Count.{bit-le}
 use Rattle.lists.proofs.Test.{truth}
 use Rattle.annexg.specs.Read.{State}
 use Rattle.channel.specs.Block.{packed, permittedChoices, permittedStream}
 use Rattle.channel.specs.declared.Run.{Run}
 use Rattle.channel.proofs.Joined.{packed-append}
-use Rattle.streams.specs.Frames.{joined, sectorOf, sectorsOf, closingOf, blockOf}
-use Rattle.streams.specs.Streams.{Stream, fresh}
-use Rattle.streams.proofs.Frames.{choicesOf, block-permitted, block-stream}
+use Rattle.streams.specs.Frames.{sectorOf, sectorsOf, closingOf, blockOf, choicesOf}
+use Rattle.streams.specs.Streams.{Stream}
+use Rattle.streams.proofs.Frames.{block-permitted, block-stream}
 use Rattle.streams.proofs.Range.{sector-near, sector-state, closing-near, closing-state}
 use Rattle.writer.specs.Answers.{sound, sectorRefusal, closingRefusal, sectorNext, sectorOut, closingNext, closingOut}
 use Rattle.writer.specs.Records.{start, runOf, recordOf, afterSector, afterClosing}
 use Rattle.writer.specs.Session.{Session, sectorCalls, blockCalls, Handed, at-start, after-sector, after-closing}
 use Rattle.writer.specs.declared.Record.{Record}
 use Rattle.writer.proofs.Signed.{offset-signed, abs-signed, abs-offset}
-use Rattle.writer.proofs.Sound.{Sound, sound-is, is-sound, near, sound-room, sector-by, closing-by, OpenSector, sector-opens, OpenEnd, closing-opens}
+use Rattle.writer.proofs.Sound.{Sound, is-sound, near, sound-room, sector-by, closing-by, OpenSector, sector-opens, OpenEnd, closing-opens}
 
 -- ---- the record stays in range
 
@@ -173,10 +171,11 @@ module _ (bs : List ℕ) (outs : ℕ → List ℕ) (e : length bs ≡ 37856) (hb
       let g = going 16 (omega arith) in
       let w = sectorCalls start bs outs 16 .next in
       let z = eq-eqb (closingRefusal w (length end)) 0 (closing-free w (length end) (g .is) (g .open-yet) (g .count) l) in
-      let m = sectorsOf (runOf start) bs 16 in
-      (block-permitted (runOf start) bs refl,
-      ap₂ (λ (u v : List ℕ). u ++ v) (g .laid) (ap (λ (x : Bool). cond x (packed (closingOf (runOf w) .halves)) end) z ∙ ap (λ (r : Run). packed (closingOf r .halves)) (g .run))
-      ∙ sym (packed-append (m .halves) (closingOf (m .run) .halves)) ∙ block-stream (runOf start) bs refl)
+      let m = sectorsOf (runOf start) bs 16 in (
+        block-permitted (runOf start) bs refl,
+        ap₂ (λ (u v : List ℕ). u ++ v) (g .laid) (ap (λ (x : Bool). cond x (packed (closingOf (runOf w) .halves)) end) z ∙ ap (λ (r : Run). packed (closingOf r .halves)) (g .run))
+            ∙ sym (packed-append (m .halves) (closingOf (m .run) .halves)) ∙ block-stream (runOf start) bs refl,
+      )
 
   -- and the record then: State 1, sixteen sectors, closed
   pub block-closed : (end : List ℕ) → length end ≡ 4 → blockCalls bs outs end .next ≡ recordOf (blockOf (runOf start) bs .run) 16 true

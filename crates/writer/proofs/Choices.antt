@@ -9,11 +9,10 @@ use borrow.Author.Tests.{le-leb, lt-leb}
 use lib.Dec.{eqb, ltb, leb}
 use lib.ListN.{length, take}
 use lib.Seq.{take-take}
-use Rattle.annexg.specs.Read.{State, wordOf}
+use Rattle.annexg.specs.Read.{wordOf}
 use Rattle.annexg.specs.Runs.{inside}
-use Rattle.channel.specs.Block.{packed}
 use Rattle.channel.specs.Channel.{byte, swaps, joinRun}
-use Rattle.channel.specs.Level.{magnitude, Room}
+use Rattle.channel.specs.Level.{magnitude}
 use Rattle.channel.specs.declared.Run.{Run}
 use Rattle.streams.specs.Streams.{Stream, lay, Two, oneLower, lower, swapPossible, swapMade, copied, kept, step}
 use Rattle.streams.proofs.Laid.{swap-lower}
@@ -74,10 +73,10 @@ step-planned t b = by (ltb b 88) (swapMade t b)
   where
     by : (x y : Bool)
         → _≡_ {A = Two} (cond x (copied (lower t) b false true) (cond y (copied (lower t) b (eqb (lower t .run .state) 4) (eqb (lower t .run .state) 1)) (kept t b)))
-          (record {
-            one = lay (cond (x || y) (lower t) (t .one)) (byte b) (cond x false (y && eqb (lower t .run .state) 4));
-            two = lay (cond (x || y) (lower t) (t .two)) (byte b) (x || (y && eqb (lower t .run .state) 1));
-          })
+        (record {
+          one = lay (cond (x || y) (lower t) (t .one)) (byte b) (cond x false (y && eqb (lower t .run .state) 4));
+          two = lay (cond (x || y) (lower t) (t .two)) (byte b) (x || (y && eqb (lower t .run .state) 1));
+        })
     by true true = refl
     by true false = refl
     by false true = refl

@@ -3,7 +3,7 @@
 use mathlib.Core.Path.{_≡_, refl, sym, ap, ap₂, subst, _∙_}
 use mathlib.Core.Bool.{Bool, true, false, not, cond, _&&_}
 use mathlib.Core.List.{List, [], _∷_, _++_, map, append-assoc, append-nil}
-use Prim.Native.Nat.{ℕ, _+_, _*_, _-_, _<_, _≤_}
+use Prim.Native.Nat.{ℕ, _+_, _<_, _≤_}
 use native.Mathlib.Numerals.{add-one}
 use native.Mathlib.Omega.{arith}
 use borrow.Author.Tests.{ltb-true, ltb-false, lt-ltb, le-ltb, eq-eqb, ne-eqb}
@@ -63,7 +63,7 @@ recount-more a run r s i w h l we re f hs e =
     let n = halves-93 s hs l e in
     let k : i < length d = omega (arith, length-drop 1 hs) in
     let v : w ≡ getD d i 0 =
-      we ∙ ap (λ (z : List ℕ). halfAt z (i + 1)) e ∙ half-packed hs (i + 1) ∙ ap (λ (z : ℕ). getD hs z 0) (omega arith) ∙ sym (getD-drop 1 hs i 0) in
+    we ∙ ap (λ (z : List ℕ). halfAt z (i + 1)) e ∙ half-packed hs (i + 1) ∙ ap (λ (z : ℕ). getD hs z 0) (omega arith) ∙ sym (getD-drop 1 hs i 0) in
     re
     ∙ ap (λ (z : Run). runAfter z (z .state) (w ∷ [])) (f hs e)
     ∙ run-append a (a .state) (a .state) (take i d) (w ∷ [])
@@ -133,8 +133,8 @@ pub closes-near : (r low : Run) (n : ℕ) (x : List ℕ) → beyond (low .dsv) �
 closes-near r low n x f =
     record {
       so = λ bs m l w.
-        let e = ended-is r n bs m false (changes-is r n bs m false _ (ap (λ (z : Run). beyond (z .dsv)) (sym (w .run)) ∙ f) refl) in
-        record { run = w .run ∙ ap (λ (z : Stream). z .run) e; bytes = w .bytes ∙ ap (λ (z : Stream). packed (z .halves)) e };
+          let e = ended-is r n bs m false (changes-is r n bs m false _ (ap (λ (z : Run). beyond (z .dsv)) (sym (w .run)) ∙ f) refl) in
+          record { run = w .run ∙ ap (λ (z : Stream). z .run) e; bytes = w .bytes ∙ ap (λ (z : Stream). packed (z .halves)) e };
     }
 
 -- what the code has found where it is beyond
@@ -198,8 +198,8 @@ module _ (r low o : Run) (n : ℕ) (x : List ℕ) (p q h₀ h : ℕ) (t : Tried 
         record {
           run = same-run low-state (ap (λ (z : Run). z .level) o-other) (ap (λ (z : Run). z .dsv) o-other) ∙ sym other-run;
           bytes =
-            ap₂ (λ (z : List ℕ) (v : ℕ). putAt z 0 v) x-is h-other ∙ put-front (codeFor (r .state) n c) (codeFor (r .state) n (not c)) (rest bs ds)
-            ∙ ap packed (sym (ap (λ (z : Stream). z .halves) other-is ∙ laid-halves r n bs (not c) ds));
+              ap₂ (λ (z : List ℕ) (v : ℕ). putAt z 0 v) x-is h-other ∙ put-front (codeFor (r .state) n c) (codeFor (r .state) n (not c)) (rest bs ds)
+              ∙ ap packed (sym (ap (λ (z : Stream). z .halves) other-is ∙ laid-halves r n bs (not c) ds));
         }
       where
         put-front : (a b : ℕ) (hs : List ℕ) → putAt (packed (a ∷ hs)) 0 b ≡ packed (b ∷ hs)

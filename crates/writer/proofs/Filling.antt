@@ -3,7 +3,7 @@
 use mathlib.Core.Path.{_≡_, refl, sym, ap, ap₂, subst, _∙_}
 use mathlib.Core.Bool.{Bool, true, false, cond}
 use mathlib.Core.List.{List, [], _∷_, _++_, map}
-use Prim.Native.Nat.{ℕ, zero, suc, _+_, _*_, _<_, _≤_}
+use Prim.Native.Nat.{ℕ, suc, _+_, _*_, _<_, _≤_}
 use native.Mathlib.Numerals.{add-one}
 use native.Mathlib.Omega.{arith}
 use lib.Dec.{T, leb, lt→ltb}
@@ -14,7 +14,7 @@ use Rattle.lists.proofs.Bytes.{take-bytes}
 use Rattle.lists.proofs.Test.{and-both}
 use Rattle.annexg.specs.Read.{State}
 use Rattle.channel.specs.Block.{packed}
-use Rattle.channel.specs.Channel.{Item, sync, byte, proper, allProper}
+use Rattle.channel.specs.Channel.{sync, byte, proper, allProper}
 use Rattle.channel.specs.Level.{magnitude, Room}
 use Rattle.channel.specs.declared.Run.{Run}
 use Rattle.channel.proofs.Places.{proper-bytes}
@@ -94,8 +94,8 @@ module _ (r : Run) (n : ℕ) (bs x₀ y₀ : List ℕ) (g : Begins r n bs x₀ y
       record {
         state = subst (λ (z : Run). State (z .state)) (sym (p .run)) (laid-state r (frameItems n (take i bs)) m l is-proper (g .state));
         room =
-          subst (λ (z : Run). Room z 16) (sym (p .run))
-          (laid-room r (frameItems n (take i bs)) m (2 + i) 16 l (room-le r (16 * (2 + i) + 16) 1488 (omega arith) (g .room)) is-width);
+            subst (λ (z : Run). Room z 16) (sym (p .run))
+            (laid-room r (frameItems n (take i bs)) m (2 + i) 16 l (room-le r (16 * (2 + i) + 16) 1488 (omega arith) (g .room)) is-width);
         long = k;
       }
 

@@ -76,14 +76,14 @@ laying-more r run q bs out part x y sel out₁ k n l ne pe f lx ly se g =
     let b = take 91 (drop (91 * k) bs) in
     let e : frameOf run n part ≡ frameOf (m .run) (codeOf k) b = ap₂ (λ (u : Run) (v : ℕ). frameOf u v part) (l .run-is) ne ∙ ap (frameOf (m .run) (codeOf k)) pe in
     let s : sel ≡ packed (frameOf (m .run) (codeOf k) b .halves) =
-      se ∙ take-all 186 (cond (q .first) x y) (long (q .first)) ∙ shown run n part x y q f ∙ ap (λ (z : Stream). packed (z .halves)) e in
+    se ∙ take-all 186 (cond (q .first) x y) (long (q .first)) ∙ shown run n part x y q f ∙ ap (λ (z : Stream). packed (z .halves)) e in
     let w : 186 * (k + 1) ≡ 186 * k + 186 = omega arith in
     let h = more k in
     record {
       run-is = f .run ∙ ap (λ (z : Stream). z .run) e ∙ ap (λ (z : Stream). z .run) (sym h);
       bytes =
-        ap (λ (z : ℕ). take z out₁) w ∙ g .front ∙ ap₂ (λ (u v : List ℕ). u ++ v) (l .bytes) s
-        ∙ sym (packed-append (m .halves) (frameOf (m .run) (codeOf k) b .halves)) ∙ ap (λ (z : Stream). packed (z .halves)) (sym h);
+          ap (λ (z : ℕ). take z out₁) w ∙ g .front ∙ ap₂ (λ (u v : List ℕ). u ++ v) (l .bytes) s
+          ∙ sym (packed-append (m .halves) (frameOf (m .run) (codeOf k) b .halves)) ∙ ap (λ (z : Stream). packed (z .halves)) (sym h);
     }
   where
     long : (c : Bool) → length (cond c x y) ≤ 186

@@ -15,13 +15,13 @@ use Rattle.lists.proofs.Test.{and-left, and-right, and-both}
 use Rattle.annexg.specs.Read.{State}
 use Rattle.annexg.specs.Runs.{inside}
 use Rattle.channel.specs.Block.{packed}
-use Rattle.channel.specs.Level.{zeroAt, magnitude, Room}
+use Rattle.channel.specs.Level.{zeroAt, Room}
 use Rattle.channel.specs.declared.Run.{Run}
 use Rattle.streams.specs.Frames.{sectorOf, closingOf}
 use Rattle.streams.proofs.Range.{sector-near, closing-near}
 use Rattle.writer.specs.Answers.{sound, sectorRefusal, closingRefusal, sectorNext, sectorOut, closingNext, closingOut}
 use Rattle.writer.specs.Inner.{Whole, SectorBegins}
-use Rattle.writer.specs.Records.{offset, runOf, recordOf, afterSector, afterClosing}
+use Rattle.writer.specs.Records.{runOf, recordOf, afterSector, afterClosing}
 use Rattle.writer.specs.declared.Record.{Record}
 use Rattle.writer.proofs.Signed.{abs-offset}
 
@@ -72,12 +72,16 @@ with-closed false x f = tt
 module _ (w : Record) where
   b₁ : Bool
   b₁ = inside 1 4 (w .state)
+
   b₂ : Bool
   b₂ = leb (w .level) 1
+
   b₃ : Bool
   b₃ = leb (w .sectors) 16
+
   b₄ : Bool
   b₄ = not (w .closed) || leb 16 (w .sectors)
+
   b₅ : Bool
   b₅ = leb (natAbs (w .dsv)) (38688 * w .sectors + 32 * bit (w .closed))
 
@@ -170,9 +174,10 @@ module _ (w : Record) (bs out : List ℕ) (no : ℕ) (e : no ≡ sectorRefusal w
       no ≡ 0 → (q : Run) (y : List ℕ) → Whole q y (sectorOf (runOf w) bs) → (recordOf q (w .sectors + 1) (w .closed) ≡ sectorNext w bs (length out)) × (y ≡ sectorOut w bs out)
   unfolding sectorNext sectorOut
   sector-done z q y h =
-      let f : eqb (sectorRefusal w (length bs) (length out)) 0 ≡ true = eq-eqb _ 0 (sym e ∙ z) in
-      (ap (λ (v : Run). recordOf v (w .sectors + 1) (w .closed)) (h .run) ∙ sym (ap (λ (b : Bool). cond b (afterSector w bs) w) f),
-      h .bytes ∙ sym (ap (λ (b : Bool). cond b (packed (sectorOf (runOf w) bs .halves)) out) f))
+      let f : eqb (sectorRefusal w (length bs) (length out)) 0 ≡ true = eq-eqb _ 0 (sym e ∙ z) in (
+        ap (λ (v : Run). recordOf v (w .sectors + 1) (w .closed)) (h .run) ∙ sym (ap (λ (b : Bool). cond b (afterSector w bs) w) f),
+        h .bytes ∙ sym (ap (λ (b : Bool). cond b (packed (sectorOf (runOf w) bs .halves)) out) f),
+      )
 
 module _ (w : Record) (out : List ℕ) (no : ℕ) (e : no ≡ closingRefusal w (length out)) where
   pub closing-refused : (no ≡ 0 → ⊥) → (w ≡ closingNext w (length out)) × (out ≡ closingOut w out)
@@ -184,9 +189,10 @@ module _ (w : Record) (out : List ℕ) (no : ℕ) (e : no ≡ closingRefusal w (
   pub closing-done : no ≡ 0 → (q : Run) (y : List ℕ) → Whole q y (closingOf (runOf w)) → (recordOf q (w .sectors) true ≡ closingNext w (length out)) × (y ≡ closingOut w out)
   unfolding closingNext closingOut
   closing-done z q y h =
-      let f : eqb (closingRefusal w (length out)) 0 ≡ true = eq-eqb _ 0 (sym e ∙ z) in
-      (ap (λ (v : Run). recordOf v (w .sectors) true) (h .run) ∙ sym (ap (λ (b : Bool). cond b (afterClosing w) w) f),
-      h .bytes ∙ sym (ap (λ (b : Bool). cond b (packed (closingOf (runOf w) .halves)) out) f))
+      let f : eqb (closingRefusal w (length out)) 0 ≡ true = eq-eqb _ 0 (sym e ∙ z) in (
+        ap (λ (v : Run). recordOf v (w .sectors) true) (h .run) ∙ sym (ap (λ (b : Bool). cond b (afterClosing w) w) f),
+        h .bytes ∙ sym (ap (λ (b : Bool). cond b (packed (closingOf (runOf w) .halves)) out) f),
+      )
 
 -- ---- the DSV after a sector and after the closing code
 

@@ -12,14 +12,14 @@ ghost use Rattle.channel.specs.Channel.{swaps};
 ghost use Rattle.channel.specs.Level.{magnitude, runAfter, Room};
 ghost use Rattle.streams.specs.Streams.{Two, swapPossible, step, steps, opened, beyond};
 ghost use Rattle.writer.specs.Inner.{Shows, planOf, Evened, Ready, Begins, Closes, Framed};
-use channel::Run;
-use super::Side;
 use super::Pair;
 use super::Plan;
 use super::Shown;
-use super::laying::put;
-use super::laying::lay_word;
+use super::Side;
 use super::laying::lay_sync;
+use super::laying::lay_word;
+use super::laying::put;
+use channel::Run;
 
 // ---- which stream is lower
 
@@ -27,7 +27,11 @@ use super::laying::lay_sync;
 pub(crate) fn absolute(d: u64) -> u64
     ensures { λ r. ⌜ r ≡ magnitude d ⌝ }
 {
-    if d < 1099511627776 { 1099511627776 - d } else { d - 1099511627776 }
+    if d < 1099511627776 {
+        1099511627776 - d
+    } else {
+        d - 1099511627776
+    }
 }
 
 // Stream 1 is the lower, by the DSVs of both.
@@ -127,7 +131,15 @@ fn even(s1: &mut [u8], s2: &mut [u8], copying: bool, first: bool, a: usize, e: u
 
 // The bytes at and at + 1 of both buffers, and all before them where the lower stream is copied over the other. A swap is made just where it is possible in
 // the lower stream.
-fn step_byte(m: &[u32; 1024], u: &[u32; 352], p: Pair, b: u8, at: usize, s1: &mut [u8], s2: &mut [u8]) -> Pair
+fn step_byte(
+    m: &[u32; 1024],
+    u: &[u32; 352],
+    p: Pair,
+    b: u8,
+    at: usize,
+    s1: &mut [u8],
+    s2: &mut [u8],
+) -> Pair
     requires { ⌜ Ready p at (now s1) (now s2) × ((now m ≡ tableOf 0) × (now u ≡ tableOf 1)) ⌝ }
     ensures { λ r. ⌜ ((t : Two) → Shows p (now (s1 .entry)) (now (s2 .entry)) at t → Shows r (now (s1 .exit)) (now (s2 .exit)) (at + 2) (step t b)) ⌝ }
 {
@@ -142,15 +154,20 @@ fn step_byte(m: &[u32; 1024], u: &[u32; 352], p: Pair, b: u8, at: usize, s1: &mu
     let from2 = pick_side(plan.copy, low, two);
     let one = lay_word(m, u, from1, b, plan.one, at, &mut *s1);
     let two = lay_word(m, u, from2, b, plan.two, at, &mut *s2);
-    Pair {
-        one,
-        two,
-        shared,
-    }
+    Pair { one, two, shared }
 }
 
 // Both streams over the 91 bytes of a frame.
-fn fill(m: &[u32; 1024], u: &[u32; 352], y: &[u16; 32], r: Run, n: u8, bytes: &[u8], s1: &mut [u8], s2: &mut [u8]) -> Pair
+fn fill(
+    m: &[u32; 1024],
+    u: &[u32; 352],
+    y: &[u16; 32],
+    r: Run,
+    n: u8,
+    bytes: &[u8],
+    s1: &mut [u8],
+    s2: &mut [u8],
+) -> Pair
     requires { ⌜ (now m ≡ tableOf 0) × ((now u ≡ tableOf 1) × ((now y ≡ syncTable) × Begins r n (now bytes) (now s1) (now s2))) ⌝ }
     ensures { λ p. ⌜ Shows p (now (s1 .exit)) (now (s2 .exit)) 186 (steps (opened r n) (now (bytes .entry))) ⌝ }
 {
@@ -242,7 +259,16 @@ fn change(y: &[u16; 32], r: Run, n: u8, low: Run, s: &mut [u8]) -> Run
 }
 
 // A frame of 91 bytes, and which of the two buffers shows it.
-pub(crate) fn frame(m: &[u32; 1024], u: &[u32; 352], y: &[u16; 32], r: Run, n: u8, bytes: &[u8], s1: &mut [u8], s2: &mut [u8]) -> Shown
+pub(crate) fn frame(
+    m: &[u32; 1024],
+    u: &[u32; 352],
+    y: &[u16; 32],
+    r: Run,
+    n: u8,
+    bytes: &[u8],
+    s1: &mut [u8],
+    s2: &mut [u8],
+) -> Shown
     requires { ⌜ (now m ≡ tableOf 0) × ((now u ≡ tableOf 1) × ((now y ≡ syncTable) × Begins r n (now bytes) (now s1) (now s2))) ⌝ }
     ensures { λ q. ⌜ Framed r n (now (bytes .entry)) (now (s1 .exit)) (now (s2 .exit)) q ⌝ }
 {
@@ -251,14 +277,8 @@ pub(crate) fn frame(m: &[u32; 1024], u: &[u32; 352], y: &[u16; 32], r: Run, n: u
     let two = p.two.run;
     if lower(one.dsv, two.dsv) {
         let run = change(y, r, n, one, &mut *s1);
-        return Shown {
-            run,
-            first: true,
-        };
+        return Shown { run, first: true };
     }
     let run = change(y, r, n, two, &mut *s2);
-    Shown {
-        run,
-        first: false,
-    }
+    Shown { run, first: false }
 }

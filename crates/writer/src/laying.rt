@@ -8,8 +8,8 @@ ghost use Rattle.channel.specs.Channel.{sync};
 ghost use Rattle.channel.specs.Level.{Room};
 ghost use Rattle.streams.specs.Streams.{fresh, lay};
 ghost use Rattle.writer.specs.Inner.{tableFor, columnFor, Part, Next, Worded};
-use channel::Run;
 use super::Side;
+use channel::Run;
 
 // The two bytes of a half word.
 pub(crate) fn put(s: &mut [u8], at: usize, w: u16)
@@ -40,7 +40,15 @@ fn column_for(s: u8, b: u8, c: bool) -> u8
 }
 
 // The Code Word that a choice takes for a byte, at the end of a stream.
-pub(crate) fn lay_word(m: &[u32; 1024], u: &[u32; 352], d: Side, b: u8, c: bool, at: usize, s: &mut [u8]) -> Side
+pub(crate) fn lay_word(
+    m: &[u32; 1024],
+    u: &[u32; 352],
+    d: Side,
+    b: u8,
+    c: bool,
+    at: usize,
+    s: &mut [u8],
+) -> Side
     requires { ⌜ (now m ≡ tableOf 0) × ((now u ≡ tableOf 1) × Next d at (now s)) ⌝ }
     ensures { λ q. ⌜ Worded d b c at (now (s .entry)) (now (s .exit)) q ⌝ }
 {

@@ -1,8 +1,8 @@
 // The writer: sectors and the closing code by the two-stream rule of clause 22, from a record that goes in and comes back by value.
-mod laying;
 mod frame;
-mod sector;
+mod laying;
 mod refusal;
+mod sector;
 
 ghost use mathlib.Core.Path.{_≡_};
 ghost use lib.ListN.{length};
@@ -75,11 +75,9 @@ pub fn new() -> Record
 
 // A sector of 2,366 bytes, laid as 4,836.
 pub fn write_sector(w: Record, bytes: &[u8], out: &mut [u8]) -> Step
-    ensures {
-        λ r. ⌜ (number (r .answer) ≡ sectorRefusal w (length (now (bytes .entry))) (length (now (out .entry))))
-            × ((r .next ≡ sectorNext w (now (bytes .entry)) (length (now (out .entry))))
-            × (now (out .exit) ≡ sectorOut w (now (bytes .entry)) (now (out .entry)))) ⌝
-    }
+    ensures { λ r. ⌜ (number (r .answer) ≡ sectorRefusal w (length (now (bytes .entry))) (length (now (out .entry))))
+        × ((r .next ≡ sectorNext w (now (bytes .entry)) (length (now (out .entry))))
+        × (now (out .exit) ≡ sectorOut w (now (bytes .entry)) (now (out .entry)))) ⌝ }
 {
     let refusal = refusal::sector_refusal(w, bytes.len(), out.len());
     let Answer::Done = refusal else {
@@ -98,11 +96,9 @@ pub fn write_sector(w: Record, bytes: &[u8], out: &mut [u8]) -> Step
 
 // The closing code, 4 bytes.
 pub fn close(w: Record, out: &mut [u8]) -> Step
-    ensures {
-        λ r. ⌜ (number (r .answer) ≡ closingRefusal w (length (now (out .entry))))
-            × ((r .next ≡ closingNext w (length (now (out .entry))))
-            × (now (out .exit) ≡ closingOut w (now (out .entry)))) ⌝
-    }
+    ensures { λ r. ⌜ (number (r .answer) ≡ closingRefusal w (length (now (out .entry))))
+        × ((r .next ≡ closingNext w (length (now (out .entry))))
+        × (now (out .exit) ≡ closingOut w (now (out .entry)))) ⌝ }
 {
     let refusal = refusal::closing_refusal(w, out.len());
     let Answer::Done = refusal else {

@@ -7,10 +7,10 @@ ghost use lib.IntN.{natAbs};
 ghost use Rattle.lists.specs.Count.{bit};
 ghost use Rattle.writer.specs.Records.{offset, signed, runOf, recordOf};
 ghost use Rattle.writer.specs.Answers.{number, sound, sectorRefusal, closingRefusal};
-use channel::Run;
-use super::Record;
 use super::Answer;
+use super::Record;
 use super::frame::absolute;
+use channel::Run;
 
 // The absolute value is at most 2^40.
 fn is_near(d: i64) -> bool

@@ -9,9 +9,9 @@ ghost use Rattle.channel.specs.Block.{codeOf, frameCodes};
 ghost use Rattle.channel.specs.Level.{Room};
 ghost use Rattle.streams.specs.Frames.{sectorOf, closingOf};
 ghost use Rattle.writer.specs.Inner.{Whole, SectorBegins, Pasted};
-use channel::Run;
 use super::frame::frame;
 use super::laying::lay_sync;
+use channel::Run;
 
 // The part of the buffer whose stream is shown: Stream 1's where it is the lower.
 fn select<'a>(s1: &'a [u8], s2: &'a [u8], first: bool) -> &'a [u8]
@@ -26,7 +26,32 @@ fn select<'a>(s1: &'a [u8], s2: &'a [u8], first: bool) -> &'a [u8]
 
 // The SYNC Codes of a sector's frames.
 const CODES: [u8; 26] = [
-    0, 5, 1, 5, 2, 5, 3, 5, 4, 5, 1, 6, 2, 6, 3, 6, 4, 6, 1, 7, 2, 7, 3, 7, 4, 7,
+    0,
+    5,
+    1,
+    5,
+    2,
+    5,
+    3,
+    5,
+    4,
+    5,
+    1,
+    6,
+    2,
+    6,
+    3,
+    6,
+    4,
+    6,
+    1,
+    7,
+    2,
+    7,
+    3,
+    7,
+    4,
+    7,
 ];
 
 fn codes() -> [u8; 26]
@@ -56,7 +81,16 @@ fn paste(from: &[u8], to: &mut [u8], at: usize)
 }
 
 // The frames of a sector, by tables and two frame buffers that are lent.
-fn frames(m: &[u32; 1024], u: &[u32; 352], y: &[u16; 32], r: Run, bytes: &[u8], s1: &mut [u8], s2: &mut [u8], out: &mut [u8]) -> Run
+fn frames(
+    m: &[u32; 1024],
+    u: &[u32; 352],
+    y: &[u16; 32],
+    r: Run,
+    bytes: &[u8],
+    s1: &mut [u8],
+    s2: &mut [u8],
+    out: &mut [u8],
+) -> Run
     requires { ⌜ (now m ≡ tableOf 0) × ((now u ≡ tableOf 1) × ((now y ≡ syncTable) × (SectorBegins r (now bytes) (now out) × ((length (now s1) ≡ 186) × (length (now s2) ≡ 186))))) ⌝ }
     ensures { λ q. ⌜ Whole q (now (out .exit)) (sectorOf r (now (bytes .entry))) ⌝ }
 {

@@ -1,4 +1,4 @@
-use mathlib.Core.Path.{_≡_, sym, ap, subst, _∙_}
+use mathlib.Core.Path.{sym, ap, subst, _∙_}
 use native.Mathlib.Omega.{arith}
 use Rattle.channel.specs.Level.{Room}
 use Rattle.channel.specs.declared.Run.{Run}
@@ -9,12 +9,6 @@ use Rattle.writer.specs.Inner.{Whole}
 use borrow.Author.Needs.{needs}
 use Rattle.writer.proofs.close.Statement.{statement}
 use Rattle.writer.proofs.close.Tie as tie
-use Rattle.writer.proofs.close.Reads as reads
-use Rattle.writer.proofs.close.Lts as lts
-use Rattle.writer.proofs.refusal.closing_refusal.Reads as closing-refusal-reads
-use Rattle.writer.proofs.refusal.record_of.Reads as record-of-reads
-use Rattle.writer.proofs.refusal.run_of.Reads as run-of-reads
-use Rattle.writer.proofs.sector.closing.Reads as closing-reads
 
 -- src/lib.rt:107:9
 closing-refusal-requires : tie.Need-closing-refusal-requires
@@ -59,7 +53,7 @@ returns-2 c =
     let a = c .before .before .before .before .before .before .before .before .before .before .args in
     let z = done (c .before .before .before .before .before .before .before .before .closing-refusal .result) (c .before .before .before .before .before .before .before .match .keys1) in
     let d =
-      closing-done (a .w) (a .out .now) _ (c .before .before .before .before .before .before .before .before .closing-refusal .ensures) z _ _ (subst (λ (r : Run). Whole (c .before .before .before .closing .result) (c .before .before .before .closing .last .1 .0) (closingOf r)) (c .before .before .before .before .before .run-of .ensures) (c .before .before .before .closing .ensures)) in
+    closing-done (a .w) (a .out .now) _ (c .before .before .before .before .before .before .before .before .closing-refusal .ensures) z _ _ (subst (λ (r : Run). Whole (c .before .before .before .closing .result) (c .before .before .before .closing .last .1 .0) (closingOf r)) (c .before .before .before .before .before .run-of .ensures) (c .before .before .before .closing .ensures)) in
     (sym z ∙ c .before .before .before .before .before .before .before .before .closing-refusal .ensures, (c .record-of .ensures ∙ d .0, d .1))
 
 pub close-spec : {M : Type 1} → statement M

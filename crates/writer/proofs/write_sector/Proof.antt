@@ -1,6 +1,4 @@
-use mathlib.Core.Path.{_≡_, sym, ap, subst, _∙_}
-use mathlib.Core.List.{List}
-use Prim.Native.Nat.{ℕ}
+use mathlib.Core.Path.{sym, ap, subst, _∙_}
 use native.Mathlib.Omega.{arith}
 use Rattle.channel.specs.declared.Run.{Run}
 use Rattle.streams.specs.Frames.{sectorOf}
@@ -10,12 +8,6 @@ use Rattle.writer.proofs.Told.{done, refused}
 use borrow.Author.Needs.{needs}
 use Rattle.writer.proofs.write_sector.Statement.{statement}
 use Rattle.writer.proofs.write_sector.Tie as tie
-use Rattle.writer.proofs.write_sector.Reads as reads
-use Rattle.writer.proofs.write_sector.Lts as lts
-use Rattle.writer.proofs.refusal.record_of.Reads as record-of-reads
-use Rattle.writer.proofs.refusal.run_of.Reads as run-of-reads
-use Rattle.writer.proofs.refusal.sector_refusal.Reads as sector-refusal-reads
-use Rattle.writer.proofs.sector.sector.Reads as sector-reads
 
 -- src/lib.rt:84:9
 sector-refusal-requires : tie.Need-sector-refusal-requires
@@ -27,9 +19,10 @@ enum-told c = search needs
 -- src/lib.rt:86:9
 returns : tie.Need-returns
 returns c =
-    let a = c .before .before .before .before .args in
-    (c .before .sector-refusal .ensures,
-    sector-refused (a .w) (a .bytes .now) (a .out .now) _ (c .before .sector-refusal .ensures) (refused (c .before .sector-refusal .result) (c .match .keys2)))
+    let a = c .before .before .before .before .args in (
+      c .before .sector-refusal .ensures,
+      sector-refused (a .w) (a .bytes .now) (a .out .now) _ (c .before .sector-refusal .ensures) (refused (c .before .sector-refusal .result) (c .match .keys2)),
+    )
 
 -- src/lib.rt:91:28
 run-of-requires : tie.Need-run-of-requires
@@ -67,8 +60,8 @@ returns-2 c =
     let a = c .before .before .before .before .before .before .before .before .before .before .before .before .args in
     let z = done (c .before .before .before .before .before .before .before .before .before .sector-refusal .result) (c .before .before .before .before .before .before .before .before .match .keys1) in
     let d =
-      sector-done (a .w) (a .bytes .now) (a .out .now) _ (c .before .before .before .before .before .before .before .before .before .sector-refusal .ensures) z _ _
-      (subst (λ (r : Run). Whole (c .before .before .before .before .sector .result) (c .before .before .before .before .sector .last .1 .1 .0) (sectorOf r (a .bytes .now))) (c .before .before .before .before .before .before .run-of .ensures) (c .before .before .before .before .sector .ensures)) in
+    sector-done (a .w) (a .bytes .now) (a .out .now) _ (c .before .before .before .before .before .before .before .before .before .sector-refusal .ensures) z _ _
+    (subst (λ (r : Run). Whole (c .before .before .before .before .sector .result) (c .before .before .before .before .sector .last .1 .1 .0) (sectorOf r (a .bytes .now))) (c .before .before .before .before .before .before .run-of .ensures) (c .before .before .before .before .sector .ensures)) in
     (sym z ∙ c .before .before .before .before .before .before .before .before .before .sector-refusal .ensures, (c .record-of .ensures ∙ d .0, d .1))
 
 pub write-sector-spec : {M : Type 1} → statement M

@@ -4,16 +4,10 @@ use Rattle.writer.proofs.Choices.{swap-small, swap-state, swap-first, s
 use borrow.Author.Needs.{needs}
 use Rattle.writer.proofs.frame.can_swap.Statement.{statement}
 use Rattle.writer.proofs.frame.can_swap.Tie as tie
-use Rattle.writer.proofs.frame.can_swap.Reads as reads
-use Rattle.writer.proofs.frame.can_swap.Lts as lts
-use Rattle.annexg.proofs.word_at.Reads as word-at-reads
-use Rattle.channel.proofs.joins.Reads as joins-reads
-use Rattle.writer.proofs.frame.swap_state.Reads as swap-state-reads
 
 -- src/frame.rt:65:9
 returns : tie.Need-returns
 returns c = swap-small _ _ _ (c .if1 .taken)
-
 
 -- src/frame.rt:67:9
 swap-state-requires : tie.Need-swap-state-requires
@@ -22,7 +16,6 @@ swap-state-requires c κs = search needs
 -- src/frame.rt:68:9
 returns-2 : tie.Need-returns-2
 returns-2 c = swap-state _ _ _ (c .before .before .if1 .left) (sym (c .before .swap-state .ensures) ∙ not-true _ (c .if2 .taken))
-
 
 -- src/frame.rt:70:27
 word-at-requires : tie.Need-word-at-requires

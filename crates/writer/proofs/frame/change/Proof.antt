@@ -4,15 +4,6 @@ use Rattle.writer.proofs.End.{closes-near, closes-same, closes-new}
 use borrow.Author.Needs.{needs}
 use Rattle.writer.proofs.frame.change.Statement.{statement}
 use Rattle.writer.proofs.frame.change.Tie as tie
-use Rattle.writer.proofs.frame.change.Reads as reads
-use Rattle.writer.proofs.frame.change.Lts as lts
-use Rattle.annexg.proofs.sync_code.Reads as sync-code-reads
-use Rattle.writer.proofs.frame.absolute.Reads as absolute-reads
-use Rattle.writer.proofs.frame.half_at.Reads as half-at-reads
-use Rattle.writer.proofs.frame.is_beyond.Reads as is-beyond-reads
-use Rattle.writer.proofs.frame.other_of.Reads as other-of-reads
-use Rattle.writer.proofs.frame.recount.Reads as recount-reads
-use Rattle.writer.proofs.laying.put.Reads as put-reads
 
 -- src/frame.rt:226:9
 is-beyond-requires : tie.Need-is-beyond-requires
@@ -21,7 +12,6 @@ is-beyond-requires c κs = search needs
 -- src/frame.rt:227:9
 returns : tie.Need-returns
 returns c = closes-near _ _ _ _ (sym (c .before .is-beyond .ensures) ∙ not-true (c .before .is-beyond .result) (c .if1 .taken))
-
 
 -- src/frame.rt:229:9
 sync-code-requires : tie.Need-sync-code-requires

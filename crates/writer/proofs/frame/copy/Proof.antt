@@ -1,6 +1,6 @@
 use borrow.Author.Needs.{needs}
-use Prim.Native.Nat.{_≤_, _<_, _+_, _-_}
-use mathlib.Core.Path.{_≡_, refl, ap, sym, _∙_}
+use Prim.Native.Nat.{_≤_, _-_}
+use mathlib.Core.Path.{_≡_, refl, ap, _∙_}
 use native.Mathlib.Omega.{arith}
 use Prim.Native.Nat.{ℕ}
 use mathlib.Core.List.{List}
@@ -8,8 +8,6 @@ use lib.ListN.{length, set, getD, length-set}
 use Rattle.writer.proofs.Buffers.{over, over-start, over-step}
 use Rattle.writer.proofs.frame.copy.Statement.{statement}
 use Rattle.writer.proofs.frame.copy.Tie as tie
-use Rattle.writer.proofs.frame.copy.Reads as reads
-use Rattle.writer.proofs.frame.copy.Lts as lts
 
 abbrev Inv-loop : tie.InvT-loop
 Inv-loop from to₀ a e j₀ to j = (a ≤ j) × ((j ≤ e) × ((length to ≡ length to₀) × (to ≡ over from to₀ j)))

@@ -3,11 +3,6 @@ use Rattle.writer.proofs.Filling.{framed-first, framed-second}
 use borrow.Author.Needs.{needs}
 use Rattle.writer.proofs.frame.frame.Statement.{statement}
 use Rattle.writer.proofs.frame.frame.Tie as tie
-use Rattle.writer.proofs.frame.frame.Reads as reads
-use Rattle.writer.proofs.frame.frame.Lts as lts
-use Rattle.writer.proofs.frame.change.Reads as change-reads
-use Rattle.writer.proofs.frame.fill.Reads as fill-reads
-use Rattle.writer.proofs.frame.lower.Reads as lower-reads
 
 -- src/frame.rt:249:9
 fill-requires : tie.Need-fill-requires
@@ -20,7 +15,6 @@ lower-requires c κs = search needs
 -- src/frame.rt:253:13
 change-requires : tie.Need-change-requires
 change-requires c κs = let a = c .before .before .before .before .before .before .before .before .before .before .before .before .before .before .before .pre .1 .1 in (a .0, (a .1 .state, (a .1 .code, (a .1 .room, omega (arith, a .1 .one)))))
-
 
 -- src/frame.rt:254:9
 same-length : tie.Need-same-length
@@ -40,7 +34,6 @@ returns c =
 -- src/frame.rt:259:9
 change-requires-2 : tie.Need-change-requires-2
 change-requires-2 c κs = let a = c .before .before .before .before .before .before .before .before .before .before .before .before .before .before .before .pre .1 .1 in (a .0, (a .1 .state, (a .1 .code, (a .1 .room, omega (arith, a .1 .two)))))
-
 
 -- src/frame.rt:245:1
 same-length-3 : tie.Need-same-length-3

@@ -4,9 +4,6 @@ use Rattle.channel.specs.Block.{halfAt}
 use borrow.Author.Needs.{needs}
 use Rattle.writer.proofs.frame.half_at.Statement.{statement}
 use Rattle.writer.proofs.frame.half_at.Tie as tie
-use Rattle.writer.proofs.frame.half_at.Reads as reads
-use Rattle.writer.proofs.frame.half_at.Lts as lts
-use Rattle.writer.proofs.frame.wide.Reads as wide-reads
 
 -- src/frame.rt:184:20
 mul-wide : tie.Need-mul-wide
@@ -47,7 +44,7 @@ add-result c = search needs
 -- src/frame.rt:180:1
 returns : tie.Need-returns
 unfolding halfAt
-returns c =    ap₂ (λ (a b : ℕ). a * 256 + b) (c .before .before .wide .ensures .0) (c .wide2 .ensures .0)
+returns c = ap₂ (λ (a b : ℕ). a * 256 + b) (c .before .before .wide .ensures .0) (c .wide2 .ensures .0)
 
 pub half-at-spec : {M : Type 1} → statement M
 half-at-spec =

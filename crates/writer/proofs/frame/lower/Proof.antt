@@ -1,9 +1,6 @@
 use borrow.Author.Needs.{needs}
 use Rattle.writer.proofs.frame.lower.Statement.{statement}
 use Rattle.writer.proofs.frame.lower.Tie as tie
-use Rattle.writer.proofs.frame.lower.Reads as reads
-use Rattle.writer.proofs.frame.lower.Lts as lts
-use Rattle.writer.proofs.frame.absolute.Reads as absolute-reads
 
 -- src/frame.rt:37:5
 absolute-requires : tie.Need-absolute-requires
@@ -16,7 +13,6 @@ absolute-requires-2 c κs = search needs
 -- src/frame.rt:34:1
 returns : tie.Need-returns
 returns c = (cc)
-
 
 pub lower-spec : {M : Type 1} → statement M
 lower-spec = tie.close (tie.spec absolute-requires absolute-requires-2 returns)

@@ -1,16 +1,8 @@
 use native.Mathlib.Omega.{arith}
-use Rattle.writer.proofs.Choices.{next-in, picked-next, Found, step-shown}
+use Rattle.writer.proofs.Choices.{next-in, picked-next, step-shown}
 use borrow.Author.Needs.{needs}
 use Rattle.writer.proofs.frame.step_byte.Statement.{statement}
 use Rattle.writer.proofs.frame.step_byte.Tie as tie
-use Rattle.writer.proofs.frame.step_byte.Reads as reads
-use Rattle.writer.proofs.frame.step_byte.Lts as lts
-use Rattle.writer.proofs.frame.can_swap.Reads as can-swap-reads
-use Rattle.writer.proofs.frame.even.Reads as even-reads
-use Rattle.writer.proofs.frame.lower.Reads as lower-reads
-use Rattle.writer.proofs.frame.pick_side.Reads as pick-side-reads
-use Rattle.writer.proofs.frame.plan.Reads as plan-reads
-use Rattle.writer.proofs.laying.lay_word.Reads as lay-word-reads
 
 -- src/frame.rt:136:9
 lower-requires : tie.Need-lower-requires
@@ -32,7 +24,6 @@ plan-requires c κs = search needs
 even-requires : tie.Need-even-requires
 even-requires c κs = let r = c .before .before .before .before .before .before .before .before .before .before .pre .0 in (r .early, (omega (arith, r .one .long), (omega (arith, r .two .long), r .agree)))
 
-
 -- src/frame.rt:141:9
 pick-side-requires-2 : tie.Need-pick-side-requires-2
 pick-side-requires-2 c κs = search needs
@@ -47,10 +38,14 @@ lay-word-requires c κs =
     let a = c .before .before .before .before .before .before .before .before .before .before .before .before .before .before .before .before .before .before in
     let r = a .pre .0 in
     let at = a .args .at in
-    let n = next-in (a .args .p .one) at _ (c .before .before .before .before .before .before .before .even .last .0) (omega (arith, r .one .long)) (r .one) in
-    (a .pre .1 .0, (a .pre .1 .1,
-    picked-next (c .before .before .before .before .before .before .before .before .before .before .plan .result .copy) (c .before .before .before .before .before .before .before .before .before .before .before .before .pick-side .result) (a .args .p .one) _ at _ (c .before .before .pick-side2 .ensures)
-    (picked-next (c .before .before .before .before .before .before .before .before .before .before .before .before .before .lower .result) (a .args .p .one) (a .args .p .two) _ at _ (c .before .before .before .before .before .before .before .before .before .before .before .before .pick-side .ensures) n (next-in (a .args .p .two) at _ _ (n .long) (r .two))) n))
+    let n = next-in (a .args .p .one) at _ (c .before .before .before .before .before .before .before .even .last .0) (omega (arith, r .one .long)) (r .one) in (
+      a .pre .1 .0,
+      (
+        a .pre .1 .1,
+        picked-next (c .before .before .before .before .before .before .before .before .before .before .plan .result .copy) (c .before .before .before .before .before .before .before .before .before .before .before .before .pick-side .result) (a .args .p .one) _ at _ (c .before .before .pick-side2 .ensures)
+            (picked-next (c .before .before .before .before .before .before .before .before .before .before .before .before .before .lower .result) (a .args .p .one) (a .args .p .two) _ at _ (c .before .before .before .before .before .before .before .before .before .before .before .before .pick-side .ensures) n (next-in (a .args .p .two) at _ _ (n .long) (r .two))) n,
+      ),
+    )
 
 -- src/frame.rt:144:9
 lay-word-requires-2 : tie.Need-lay-word-requires-2
@@ -58,10 +53,14 @@ lay-word-requires-2 c κs =
     let a = c .before .before .before .before .before .before .before .before .before .before .before .before .before .before .before .before .before .before .before .before .before .before in
     let r = a .pre .0 in
     let at = a .args .at in
-    let n = next-in (a .args .p .two) at _ (c .before .before .before .before .before .before .before .before .before .before .before .even .last .1 .0) (omega (arith, r .two .long)) (r .two) in
-    (a .pre .1 .0, (a .pre .1 .1,
-    picked-next (c .before .before .before .before .before .before .before .before .before .before .before .before .before .before .plan .result .copy) (c .before .before .before .before .before .before .before .before .before .before .before .before .before .before .before .before .pick-side .result) (a .args .p .two) _ at _ (c .before .before .before .before .before .pick-side3 .ensures)
-    (picked-next (c .before .before .before .before .before .before .before .before .before .before .before .before .before .before .before .before .before .lower .result) (a .args .p .one) (a .args .p .two) _ at _ (c .before .before .before .before .before .before .before .before .before .before .before .before .before .before .before .before .pick-side .ensures) (next-in (a .args .p .one) at _ _ (n .long) (r .one)) n) n))
+    let n = next-in (a .args .p .two) at _ (c .before .before .before .before .before .before .before .before .before .before .before .even .last .1 .0) (omega (arith, r .two .long)) (r .two) in (
+      a .pre .1 .0,
+      (
+        a .pre .1 .1,
+        picked-next (c .before .before .before .before .before .before .before .before .before .before .before .before .before .before .plan .result .copy) (c .before .before .before .before .before .before .before .before .before .before .before .before .before .before .before .before .pick-side .result) (a .args .p .two) _ at _ (c .before .before .before .before .before .pick-side3 .ensures)
+            (picked-next (c .before .before .before .before .before .before .before .before .before .before .before .before .before .before .before .before .before .lower .result) (a .args .p .one) (a .args .p .two) _ at _ (c .before .before .before .before .before .before .before .before .before .before .before .before .before .before .before .before .pick-side .ensures) (next-in (a .args .p .one) at _ _ (n .long) (r .one)) n) n,
+      ),
+    )
 
 -- src/frame.rt:130:1
 same-length : tie.Need-same-length

@@ -2,11 +2,6 @@ use Rattle.writer.proofs.Words.{synced}
 use borrow.Author.Needs.{needs}
 use Rattle.writer.proofs.laying.lay_sync.Statement.{statement}
 use Rattle.writer.proofs.laying.lay_sync.Tie as tie
-use Rattle.writer.proofs.laying.lay_sync.Reads as reads
-use Rattle.writer.proofs.laying.lay_sync.Lts as lts
-use Rattle.annexg.proofs.sync_code.Reads as sync-code-reads
-use Rattle.channel.proofs.Run.sync.Reads as sync-reads
-use Rattle.writer.proofs.laying.put.Reads as put-reads
 
 -- src/laying.rt:62:9
 sync-code-requires : tie.Need-sync-code-requires

@@ -2,14 +2,6 @@ use Rattle.writer.proofs.Words.{worded}
 use borrow.Author.Needs.{needs}
 use Rattle.writer.proofs.laying.lay_word.Statement.{statement}
 use Rattle.writer.proofs.laying.lay_word.Tie as tie
-use Rattle.writer.proofs.laying.lay_word.Reads as reads
-use Rattle.writer.proofs.laying.lay_word.Lts as lts
-use Rattle.annexg.proofs.next_at.Reads as next-at-reads
-use Rattle.annexg.proofs.word_at.Reads as word-at-reads
-use Rattle.channel.proofs.Run.word.Reads as word-reads
-use Rattle.writer.proofs.laying.column_for.Reads as column-for-reads
-use Rattle.writer.proofs.laying.put.Reads as put-reads
-use Rattle.writer.proofs.laying.table_for.Reads as table-for-reads
 
 -- src/laying.rt:48:9
 table-for-requires : tie.Need-table-for-requires

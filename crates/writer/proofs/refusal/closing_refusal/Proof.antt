@@ -5,14 +5,10 @@ use Rattle.writer.proofs.Sound.{closing-by}
 use borrow.Author.Needs.{needs}
 use Rattle.writer.proofs.refusal.closing_refusal.Statement.{statement}
 use Rattle.writer.proofs.refusal.closing_refusal.Tie as tie
-use Rattle.writer.proofs.refusal.closing_refusal.Reads as reads
-use Rattle.writer.proofs.refusal.closing_refusal.Lts as lts
-use Rattle.writer.proofs.refusal.is_sound.Reads as is-sound-reads
 
 -- src/refusal.rt:138:9
 returns : tie.Need-returns
 returns c = let a = c .before .args in closing-by (a .w) (a .to) false _ _ _ (ne-eqb _ _ (c .if1 .taken)) refl refl refl
-
 
 -- src/refusal.rt:140:9
 is-sound-requires : tie.Need-is-sound-requires

@@ -1,10 +1,9 @@
-use Prim.Native.Nat.{ℕ}
 use lib.IntN.{ℤ, natAbs}
 use mir.Syntax.{w64}
 use mir.ValLaws.{toZ-ofZ}
 use Rattle.channel.specs.Level.{zeroAt, magnitude}
 use Rattle.writer.specs.Records.{offset}
-use mathlib.Core.Path.{_≡_, refl, sym, ap, ap₂, _∙_}
+use mathlib.Core.Path.{refl, sym, ap, ap₂, _∙_}
 use mathlib.Core.Bool.{true, false}
 use lib.Dec.{leb}
 use borrow.Author.Tests.{le-leb, lt-leb, leb-true, not-true, not-false}
@@ -13,28 +12,18 @@ use Rattle.writer.proofs.Sound.{sound-by, too-far}
 use borrow.Author.Needs.{needs}
 use Rattle.writer.proofs.refusal.is_sound.Statement.{statement}
 use Rattle.writer.proofs.refusal.is_sound.Tie as tie
-use Rattle.writer.proofs.refusal.is_sound.Reads as reads
-use Rattle.writer.proofs.refusal.is_sound.Lts as lts
-use Rattle.writer.proofs.frame.absolute.Reads as absolute-reads
-use Rattle.writer.proofs.refusal.is_near.Reads as is-near-reads
-use Rattle.writer.proofs.refusal.is_whole.Reads as is-whole-reads
-use Rattle.writer.proofs.refusal.limit.Reads as limit-reads
-use Rattle.writer.proofs.refusal.offset_of.Reads as offset-of-reads
 
 -- src/refusal.rt:91:9
 returns : tie.Need-returns
 returns c = sound-by (c .before .before .args .w) false _ _ _ _ _ (lt-leb 1 _ (c .if1 .taken)) refl refl refl refl refl
 
-
 -- src/refusal.rt:94:9
 returns-2 : tie.Need-returns-2
 returns-2 c = sound-by (c .before .before .before .before .args .w) true false _ _ _ _ (le-leb 1 _ (c .before .before .if1 .left)) (lt-leb _ 4 (c .if2 .taken)) refl refl refl refl
 
-
 -- src/refusal.rt:97:9
 returns-3 : tie.Need-returns-3
 returns-3 c = sound-by (c .before .before .before .before .before .before .args .w) true true false _ _ _ (le-leb 1 _ (c .before .before .before .before .if1 .left)) (le-leb _ 4 (c .before .before .if2 .left)) (lt-leb _ 1 (c .if3 .taken)) refl refl refl
-
 
 -- src/refusal.rt:100:9
 returns-4 : tie.Need-returns-4
@@ -70,7 +59,6 @@ returns-6 c =
 offset-of-requires : tie.Need-offset-of-requires
 offset-of-requires c κs = leb-true _ _ (sym (c .before .before .is-near .ensures) ∙ not-false (c .before .before .is-near .result) (c .before .if6 .left))
 
-
 -- src/refusal.rt:108:5
 absolute-requires : tie.Need-absolute-requires
 absolute-requires c κs = search needs
@@ -85,8 +73,8 @@ returns-7 c =
     let w = c .before .before .before .before .before .before .before .before .before .before .before .before .before .before .before .before .before .args .w in
     let back = toZ-ofZ w64 (w .dsv) (record { sfits = c .before .before .before .before .before .before .struct-told .given .1 .1 .0 .1 }) in
     let n =
-      leb-true (natAbs (w .dsv)) zeroAt
-      (ap (λ (z : ℤ). leb (natAbs z) zeroAt) (sym back) ∙ sym (c .before .before .before .before .before .is-near .ensures) ∙ not-false (c .before .before .before .before .before .is-near .result) (c .before .before .before .before .if6 .left)) in
+    leb-true (natAbs (w .dsv)) zeroAt
+    (ap (λ (z : ℤ). leb (natAbs z) zeroAt) (sym back) ∙ sym (c .before .before .before .before .before .is-near .ensures) ∙ not-false (c .before .before .before .before .before .is-near .result) (c .before .before .before .before .if6 .left)) in
     sound-by w true true true true true _ (le-leb 1 _ (c .before .before .before .before .before .before .before .before .before .before .before .before .before .before .before .if1 .left)) (le-leb _ 4 (c .before .before .before .before .before .before .before .before .before .before .before .before .before .if2 .left)) (le-leb _ 1 (c .before .before .before .before .before .before .before .before .before .before .before .if3 .left))
     (le-leb _ 16 (c .before .before .before .before .before .before .before .before .before .if4 .left)) (sym (c .before .before .before .before .before .before .before .before .is-whole .ensures) ∙ not-false (c .before .before .before .before .before .before .before .before .is-whole .result) (c .before .before .before .before .before .before .before .if5 .left))
     (sym (ap₂ leb (c .before .absolute .ensures ∙ ap magnitude (c .before .before .offset-of .ensures ∙ ap offset back) ∙ abs-offset (w .dsv) n) (c .limit .ensures)))

@@ -3,8 +3,6 @@ use native.Mathlib.Omega.{arith}
 use borrow.Author.Needs.{needs}
 use Rattle.writer.proofs.refusal.limit.Statement.{statement}
 use Rattle.writer.proofs.refusal.limit.Tie as tie
-use Rattle.writer.proofs.refusal.limit.Reads as reads
-use Rattle.writer.proofs.refusal.limit.Lts as lts
 
 -- src/refusal.rt:70:13
 mul-n : tie.Need-mul-n
@@ -18,11 +16,9 @@ add-result c = search needs
 returns : tie.Need-returns
 returns c = rw (c .if1 .taken) refl
 
-
 -- src/refusal.rt:66:1
 returns-2 : tie.Need-returns-2
 returns-2 c = rw (c .if1 .left) (omega arith)
-
 
 pub limit-spec : {M : Type 1} → statement M
 limit-spec = tie.close (tie.spec mul-n add-result returns returns-2)

@@ -1,21 +1,16 @@
-use mathlib.Core.Path.{_≡_, refl}
-use Prim.Native.Nat.{ℕ, _≤_}
+use mathlib.Core.Path.{refl}
 use native.Mathlib.Omega.{arith}
-use lib.IntN.{ℤ, pos, natAbs, _+ℤ_}
+use lib.IntN.{pos}
 use mir.Syntax.{w64}
-use mir.Val.{toZ, ofZ, SFits}
 use mir.ValLaws.{toZ-ofZ}
 use Rattle.writer.specs.Records.{offset}
 use Rattle.writer.proofs.Signed.{up, fits-abs, offset-small}
 use Rattle.writer.proofs.refusal.offset_of.Statement.{statement}
 use Rattle.writer.proofs.refusal.offset_of.Tie as tie
-use Rattle.writer.proofs.refusal.offset_of.Reads as reads
-use Rattle.writer.proofs.refusal.offset_of.Lts as lts
 
 -- src/refusal.rt:29:6
 add-result : tie.Need-add-result
 add-result c = rw (toZ-ofZ w64 (c .args .d) (c .fits .d), up (c .args .d) (c .pre)) (fits-abs (pos (offset (c .args .d))) (offset-small (c .args .d) (c .pre)))
-
 
 -- src/refusal.rt:29:5
 cast-result : tie.Need-cast-result
@@ -25,7 +20,7 @@ cast-result c =
 
 -- src/refusal.rt:25:1
 returns : tie.Need-returns
-returns c =    rw (toZ-ofZ w64 (c .args .d) (c .fits .d), up (c .args .d) (c .pre), toZ-ofZ w64 (pos (offset (c .args .d))) (fits-abs (pos (offset (c .args .d))) (offset-small (c .args .d) (c .pre)))) refl
+returns c = rw (toZ-ofZ w64 (c .args .d) (c .fits .d), up (c .args .d) (c .pre), toZ-ofZ w64 (pos (offset (c .args .d))) (fits-abs (pos (offset (c .args .d))) (offset-small (c .args .d) (c .pre)))) refl
 
 pub offset-of-spec : {M : Type 1} → statement M
 offset-of-spec = tie.close (tie.spec add-result cast-result returns)

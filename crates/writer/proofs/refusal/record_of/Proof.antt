@@ -5,9 +5,6 @@ use mir.ValLaws.{toZ-ofZ}
 use borrow.Author.Needs.{needs}
 use Rattle.writer.proofs.refusal.record_of.Statement.{statement}
 use Rattle.writer.proofs.refusal.record_of.Tie as tie
-use Rattle.writer.proofs.refusal.record_of.Reads as reads
-use Rattle.writer.proofs.refusal.record_of.Lts as lts
-use Rattle.writer.proofs.refusal.signed_of.Reads as signed-of-reads
 
 -- src/refusal.rt:55:9
 signed-of-requires : tie.Need-signed-of-requires

@@ -1,16 +1,11 @@
 use mathlib.Core.Path.{ap, _∙_}
-use lib.IntN.{ℤ}
 use mir.Syntax.{w64}
 use mir.ValLaws.{toZ-ofZ}
 use Rattle.writer.specs.Records.{offset}
 use Prim.Native.Nat.{ℕ}
-use Rattle.channel.specs.declared.Run.{Run}
 use borrow.Author.Needs.{needs}
 use Rattle.writer.proofs.refusal.run_of.Statement.{statement}
 use Rattle.writer.proofs.refusal.run_of.Tie as tie
-use Rattle.writer.proofs.refusal.run_of.Reads as reads
-use Rattle.writer.proofs.refusal.run_of.Lts as lts
-use Rattle.writer.proofs.refusal.offset_of.Reads as offset-of-reads
 
 -- src/refusal.rt:43:9
 offset-of-requires : tie.Need-offset-of-requires
@@ -22,7 +17,6 @@ returns c =
     let w = c .before .before .args .w in
     ap (λ (d : ℕ). record { state = w .state; level = w .level; dsv = d })
     (c .offset-of .ensures ∙ ap offset (toZ-ofZ w64 (w .dsv) (record { sfits = c .before .struct-told .given .1 .1 .0 .1 })))
-
 
 pub run-of-spec : {M : Type 1} → statement M
 run-of-spec = tie.close (tie.spec offset-of-requires returns)

@@ -5,19 +5,14 @@ use Rattle.writer.proofs.Sound.{sector-by}
 use borrow.Author.Needs.{needs}
 use Rattle.writer.proofs.refusal.sector_refusal.Statement.{statement}
 use Rattle.writer.proofs.refusal.sector_refusal.Tie as tie
-use Rattle.writer.proofs.refusal.sector_refusal.Reads as reads
-use Rattle.writer.proofs.refusal.sector_refusal.Lts as lts
-use Rattle.writer.proofs.refusal.is_sound.Reads as is-sound-reads
 
 -- src/refusal.rt:116:9
 returns : tie.Need-returns
 returns c = let a = c .before .args in sector-by (a .w) (a .from) (a .to) false _ _ _ _ (ne-eqb _ _ (c .if1 .taken)) refl refl refl refl
 
-
 -- src/refusal.rt:119:9
 returns-2 : tie.Need-returns-2
 returns-2 c = let a = c .before .before .args in sector-by (a .w) (a .from) (a .to) true false _ _ _ (eq-eqb _ _ (c .before .if1 .left)) (ne-eqb _ _ (c .if2 .taken)) refl refl refl
-
 
 -- src/refusal.rt:121:9
 is-sound-requires : tie.Need-is-sound-requires

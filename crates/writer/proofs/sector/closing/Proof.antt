@@ -4,10 +4,6 @@ use lib.Seq.{take-all}
 use borrow.Author.Needs.{needs}
 use Rattle.writer.proofs.sector.closing.Statement.{statement}
 use Rattle.writer.proofs.sector.closing.Tie as tie
-use Rattle.writer.proofs.sector.closing.Reads as reads
-use Rattle.writer.proofs.sector.closing.Lts as lts
-use Rattle.annexg.proofs.sync_table.Reads as sync-table-reads
-use Rattle.writer.proofs.laying.lay_sync.Reads as lay-sync-reads
 
 -- src/sector.rt:95:13
 sync-table-requires : tie.Need-sync-table-requires

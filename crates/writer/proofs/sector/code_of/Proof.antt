@@ -1,4 +1,4 @@
-use mathlib.Core.Path.{_≡_, ap, subst, sym, _∙_}
+use mathlib.Core.Path.{ap, subst, sym, _∙_}
 use lib.ListN.{getD}
 use Rattle.writer.proofs.Sectors.{code-at, code-small}
 use mathlib.Core.List.{List}
@@ -6,8 +6,6 @@ use Prim.Native.Nat.{ℕ, _<_}
 use borrow.Author.Needs.{needs}
 use Rattle.writer.proofs.sector.code_of.Statement.{statement}
 use Rattle.writer.proofs.sector.code_of.Tie as tie
-use Rattle.writer.proofs.sector.code_of.Reads as reads
-use Rattle.writer.proofs.sector.code_of.Lts as lts
 
 -- src/sector.rt:43:5
 element-copy-out-result : tie.Need-element-copy-out-result

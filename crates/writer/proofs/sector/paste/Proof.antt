@@ -7,8 +7,6 @@ use lib.ListN.{length, take, length-set}
 use Rattle.writer.proofs.Sectors.{paste-start, paste-step, paste-all}
 use Rattle.writer.proofs.sector.paste.Statement.{statement}
 use Rattle.writer.proofs.sector.paste.Tie as tie
-use Rattle.writer.proofs.sector.paste.Reads as reads
-use Rattle.writer.proofs.sector.paste.Lts as lts
 
 abbrev Inv-loop : tie.InvT-loop
 Inv-loop from to₀ at j₀ to j = (j ≤ 186) × ((length to ≡ length to₀) × (take (at + j) to ≡ take at to₀ ++ take j from))

@@ -2,8 +2,6 @@ use native.Mathlib.Omega.{arith}
 use lib.ListN.{length-take}
 use Rattle.writer.proofs.sector.select.Statement.{statement}
 use Rattle.writer.proofs.sector.select.Tie as tie
-use Rattle.writer.proofs.sector.select.Reads as reads
-use Rattle.writer.proofs.sector.select.Lts as lts
 
 -- src/lib.rt:501:9
 slice-aggregate-result : tie.Need-slice-aggregate-result
