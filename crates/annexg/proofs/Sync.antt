@@ -10,11 +10,10 @@ use borrow.Author.Tests.{eq-eqb}
 use Rattle.lists.specs.Count.{bit}
 use Rattle.lists.specs.Test.{below, every}
 use Rattle.lists.proofs.Count.{bit-le}
-use Rattle.lists.proofs.Test.{and-left, and-right, truth, truth-of, below-at, every-at}
+use Rattle.lists.proofs.Test.{and-left, and-right, truth, truth-of, below-at, every-at, implied}
 use Rattle.annexg.specs.Read.{State, bothZero, agrees}
 use Rattle.annexg.specs.Runs.{bitsOf, lead, trail, inner}
 use Rattle.annexg.specs.Sync.{syncTable, syncEnd, codeFor, syncRuns}
-
 
 pub length-sync : length syncTable ≡ 32
 unfolding syncTable
@@ -66,17 +65,13 @@ code-agrees (suc (suc (suc (suc (suc s))))) n c hs hn = absurd (omega arith)
 onlyAt : ℕ → ℕ → Bool
 onlyAt k h = below 32 (λ j. cond (eqb (getD syncTable j 0) h) (eqb j k) true)
 
-chosen : (a b : Bool) → T a → T (cond a b true) → T b
-chosen true b t u = u
-chosen false b t u = absurd t
-
 pub codes-once : (j k : ℕ) → j < 32 → k < 32 → getD syncTable j 0 ≡ getD syncTable k 0 → j ≡ k
 unfolding onlyAt
 codes-once j k hj hk e =
     let h = getD syncTable k 0 in
     let test = every-at onlyAt syncTable (unfold onlyAt syncTable in tt) k (omega (arith, length-sync)) in
     eqb→eq j k
-    (chosen (eqb (getD syncTable j 0) h) (eqb j k) (truth-of (eqb (getD syncTable j 0) h) (eq-eqb (getD syncTable j 0) h e))
+    (implied (eqb (getD syncTable j 0) h) (eqb j k) (truth-of (eqb (getD syncTable j 0) h) (eq-eqb (getD syncTable j 0) h e))
     (below-at 32 (λ i. cond (eqb (getD syncTable i 0) h) (eqb i k) true) test j hj))
 
 bit-same : (c d : Bool) → bit c ≡ bit d → c ≡ d

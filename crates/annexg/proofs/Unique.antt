@@ -11,7 +11,7 @@ use lib.Dec.{T, eqb, eqb→eq, lit<}
 use lib.ListN.{length, getD}
 use borrow.Author.Tests.{eq-eqb}
 use Rattle.lists.specs.Test.{every}
-use Rattle.lists.proofs.Test.{and-left, and-right, truth, truth-of, every-at}
+use Rattle.lists.proofs.Test.{and-left, and-right, truth-of, every-at, implied}
 use Rattle.annexg.specs.Read.{tableOf, entryOf, bothZero, agrees, fitsOf, firstFit, readGiven, readWord}
 use Rattle.annexg.specs.Tables.{mainTable, subTable}
 use Rattle.annexg.proofs.Search.{each-table, in-table}
@@ -25,10 +25,10 @@ data Tree : Type 0 where
 put : ℕ → ℕ → Tree → Tree
 put w b leaf = node leaf w b leaf
 put w b (node l v c r) =
-    elim (compare w v)
-    [ Ordering·lt ↦ node (put w b l) v c r
-    | Ordering·eq ↦ node l v c r
-    | Ordering·gt ↦ node l v c (put w b r)
+    elim (compare w v) [
+      | Ordering·lt ↦ node (put w b l) v c r
+      | Ordering·eq ↦ node l v c r
+      | Ordering·gt ↦ node l v c (put w b r)
     ]
 
 get : ℕ → Tree → ℕ
@@ -66,11 +66,6 @@ tested q t h =
 owner : ℕ → Bool → ℕ
 owner w q = get w (tree q)
 
--- what it says that an entry fits
-picked : (a b : Bool) → a ≡ true → T (cond a b true) → T b
-picked true b e t = t
-picked false b e t = absurd (subst T (sym e) tt)
-
 unlike : (b : Bool) → b ≡ true → b ≡ false → ⊥
 unlike b p n = subst T (sym p ∙ n) tt
 
@@ -82,7 +77,8 @@ module _ (w : ℕ) (q : Bool) where
       let fit = truth-of (eqb (x / 16) w && agrees (x % 16) q) e in
       ap (λ (v : ℕ). get v (tree q)) (sym (eqb→eq (x / 16) w (and-left (eqb (x / 16) w) (agrees (x % 16) q) fit)))
       ∙ eqb→eq (get (x / 16) (tree q)) (k / 4)
-      (picked (agrees (x % 16) q) (eqb (get (x / 16) (tree q)) (k / 4)) (truth (agrees (x % 16) q) (and-right (eqb (x / 16) w) (agrees (x % 16) q) fit)) (every-at (owned q (tree q)) (tableOf t) (tested q t ht) k hk))
+      (implied (agrees (x % 16) q) (eqb (get (x / 16) (tree q)) (k / 4)) (and-right (eqb (x / 16) w) (agrees (x % 16) q) fit)
+      (every-at (owned q (tree q)) (tableOf t) (tested q t ht) k hk))
 
   -- every entry of the list that fits has the byte o
   Owned : List ℕ → ℕ → ℕ → Type 0

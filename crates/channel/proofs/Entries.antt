@@ -12,7 +12,7 @@ use Rattle.annexg.specs.Read.{State, tableOf, entryOf, bothZero, agrees}
 use Rattle.annexg.specs.Runs.{inside}
 use Rattle.annexg.specs.Tables.{mainTable, subTable}
 use Rattle.annexg.proofs.Search.{length-main, length-sub, table-rule, column-is}
-use Rattle.channel.specs.Channel.{byte, entryFor, joinRun, swaps, allowed}
+use Rattle.channel.specs.Channel.{byte, entryFor, swaps, allowed}
 
 -- an entry's word has bits 15 and 3 by its State, and its next State is one
 starts : ℕ → ℕ → Bool
@@ -88,8 +88,7 @@ other s b false j e hb hs p =
 
 pub taken : (s l b : ℕ) (c : Bool) → b < 256 → State s → T (allowed s l (byte b) c) → Taken s b (entryFor s b c)
 taken s l b false hb hs p = own 0 s b (lit< tt) (row-main b hb) hs
-taken s l b true hb hs p = other s b (ltb b 88) (inside 2 10 (joinRun l (entryFor s b true / 16))) refl hb hs p
+taken s l b true hb hs p = other s b (ltb b 88) _ refl hb hs p
 
 pub taken-next : {s b e : ℕ} → Taken s b e → State (e % 16)
 taken-next {s} {b} {e} t = rw (t .entry-is) (entry-next (t .table-no) b (t .column) (t .table-small) (t .row-small) (t .column-small))
-

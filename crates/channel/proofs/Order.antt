@@ -102,3 +102,9 @@ thirteen-off is i h = rw (ne-eqb (i % 16) 13 h) refl
 -- in a block, thirteen anywhere but there in one of its frames
 pub block-thirteen-refused : (i : ℕ) → (i % 1488 ≡ 13 → ⊥) → blockRunFits i 13 ≡ false
 block-thirteen-refused i h = rw (ne-eqb (i % 1488) 13 h) refl
+
+pub block-one-refused : (i : ℕ) → blockRunFits i 1 ≡ false
+block-one-refused i = refl
+
+pub block-eleven-refused : (i : ℕ) → blockRunFits i 11 ≡ false
+block-eleven-refused i = refl

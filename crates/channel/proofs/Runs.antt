@@ -10,7 +10,7 @@ use borrow.Author.Tests.{eq-eqb, ltb-true}
 use lib.Dec.{T, eqb, eqb→eq, ltb, leb, ltb→lt, leb→le, lit<}
 use lib.ListN.{length, replicate}
 use Rattle.lists.specs.Test.{below, every}
-use Rattle.lists.proofs.Test.{and-left, and-right, and-both, below-at, or-left, or-right}
+use Rattle.lists.proofs.Test.{and-left, and-right, and-both, below-at, or-left, or-right, implied}
 use Rattle.annexg.specs.Read.{State, tableOf, entryOf}
 use Rattle.annexg.specs.Runs.{bitsOf, lead, trail, inside, innerFrom}
 use Rattle.annexg.specs.Sync.{syncTable, syncEnd, codeFor}
@@ -93,10 +93,6 @@ try s w r = cond (ends s r || inside 2 10 (r + lead (bitsOf 16 w))) (goes r w (t
 joins : ℕ → ℕ → Bool
 joins k e = ends (e % 16) (trail (e / 16)) && below 10 (try (k % 4 + 1) (e / 16))
 
-picked : (a b : Bool) → T (cond a b true) → T a → T b
-picked true b t h = t
-picked false b t h = absurd h
-
 module _ (t b k : ℕ) (ht : t < 2) (hb : b * 4 < length (tableOf t)) (hk : k < 4) where
   entry-joins : T (joins (b * 4 + k) (entryOf t b k))
   entry-joins =
@@ -114,8 +110,8 @@ module _ (t b k : ℕ) (ht : t < 2) (hb : b * 4 < length (tableOf t)) (hk : k < 
       let w = entryOf t b k / 16 in
       let c = column-is b k hk in
       let u = and-right (ends (entryOf t b k % 16) (trail (entryOf t b k / 16))) (below 10 (try ((b * 4 + k) % 4 + 1) (entryOf t b k / 16))) entry-joins in
-      picked (ends (k + 1) r || inside 2 10 (r + lead (bitsOf 16 w))) (goes r w (trail w))
-      (subst (λ (n : ℕ). T (try n w r)) c (below-at 10 (try ((b * 4 + k) % 4 + 1) w) u r hr)) a
+      implied (ends (k + 1) r || inside 2 10 (r + lead (bitsOf 16 w))) (goes r w (trail w)) a
+      (subst (λ (n : ℕ). T (try n w r)) c (below-at 10 (try ((b * 4 + k) % 4 + 1) w) u r hr))
 
 -- the ZEROs before a State are below ten
 inside-high : (low high r : ℕ) → T (inside low high r) → r ≤ high
@@ -151,13 +147,13 @@ code-goes : (s n : ℕ) (c : Bool) (r : ℕ) → State s → n < 8 → T (ends s
 unfolding tryCode
 code-goes zero n c r hs hn e = absurd (omega arith)
 code-goes (suc zero) n c r hs hn e =
-    picked (ends 1 r || ends 2 r) (goes r (codeFor 1 n c) 2) (code-tries 1 n c hs hn r (ends-small 1 r e)) (or-left (ends 1 r) (ends 2 r) e)
+    implied (ends 1 r || ends 2 r) (goes r (codeFor 1 n c) 2) (or-left (ends 1 r) (ends 2 r) e) (code-tries 1 n c hs hn r (ends-small 1 r e))
 code-goes (suc (suc zero)) n c r hs hn e =
-    picked (ends 1 r || ends 2 r) (goes r (codeFor 2 n c) 2) (code-tries 2 n c hs hn r (ends-small 2 r e)) (or-right (ends 1 r) (ends 2 r) e)
+    implied (ends 1 r || ends 2 r) (goes r (codeFor 2 n c) 2) (or-right (ends 1 r) (ends 2 r) e) (code-tries 2 n c hs hn r (ends-small 2 r e))
 code-goes (suc (suc (suc zero))) n c r hs hn e =
-    picked (ends 3 r || ends 4 r) (goes r (codeFor 3 n c) 2) (code-tries 3 n c hs hn r (ends-small 3 r e)) (or-left (ends 3 r) (ends 4 r) e)
+    implied (ends 3 r || ends 4 r) (goes r (codeFor 3 n c) 2) (or-left (ends 3 r) (ends 4 r) e) (code-tries 3 n c hs hn r (ends-small 3 r e))
 code-goes (suc (suc (suc (suc zero)))) n c r hs hn e =
-    picked (ends 3 r || ends 4 r) (goes r (codeFor 4 n c) 2) (code-tries 4 n c hs hn r (ends-small 4 r e)) (or-right (ends 3 r) (ends 4 r) e)
+    implied (ends 3 r || ends 4 r) (goes r (codeFor 4 n c) 2) (or-right (ends 3 r) (ends 4 r) e) (code-tries 4 n c hs hn r (ends-small 4 r e))
 code-goes (suc (suc (suc (suc (suc s))))) n c r hs hn e = absurd (omega arith)
 
 -- an entry e after r ZEROs: its word goes, and ends as its next State wants

@@ -1,8 +1,8 @@
 -- The bits of a stream, and the runs of ZEROs that it may have.
 -- Assumes nothing.
-use mathlib.Core.Bool.{Bool, true, false, _&&_, _||_}
+use mathlib.Core.Bool.{Bool, true, false, not, _&&_, _||_}
 use mathlib.Core.List.{List, [], _∷_, _++_}
-use Prim.Native.Nat.{ℕ, zero, suc, _/_, _%_}
+use Prim.Native.Nat.{ℕ, zero, suc, _-_, _/_, _%_}
 use lib.Dec.{eqb}
 use Rattle.annexg.specs.Runs.{bitsOf, inside}
 use Rattle.channel.specs.Channel.{Item, sync, byte}
@@ -33,3 +33,13 @@ runFits is i n = inside 2 10 n || (eqb n 13 && (eqb (i % 16) 13 && syncHalf is (
 -- the same in a block, whose frames are 1,488 bits
 abbrev pub blockRunFits : ℕ → ℕ → Bool
 blockRunFits i n = inside 2 10 n || (eqb n 13 && eqb (i % 1488) 13)
+
+-- the bits from bit p on, where r ZEROs have passed since the last ONE, if one was seen: each run between two ONEs is one that a block may have
+unfoldable pub runsFrom : Bool → ℕ → ℕ → List ℕ → Bool
+runsFrom seen p r [] = true
+runsFrom seen p r (zero ∷ bs) = runsFrom seen (suc p) (suc r) bs
+runsFrom seen p r (suc x ∷ bs) = (not seen || blockRunFits (p - suc r) r) && runsFrom true (suc p) 0 bs
+
+-- the runs of a stream of bytes that starts with a Sync Frame
+abbrev pub runsHold : List ℕ → Bool
+runsHold xs = runsFrom false 0 0 (bitsBytes xs)

@@ -1,7 +1,7 @@
 -- A computed test, turned into its rule at each number or entry.
 -- Assumes nothing.
 use mathlib.Core.Path.{_≡_, refl, sym, subst, _∙_}
-use mathlib.Core.Bool.{Bool, true, false, _&&_, _||_}
+use mathlib.Core.Bool.{Bool, true, false, cond, _&&_, _||_}
 use mathlib.Core.List.{List, [], _∷_}
 use mathlib.Core.Logic.{_⊎_, inl, inr}
 use Prim.Native.Nat.{ℕ, zero, suc, _+_, _<_}
@@ -61,3 +61,8 @@ or-left false b t = absurd t
 pub or-right : (a b : Bool) → T b → T (a || b)
 or-right true b t = tt
 or-right false b t = t
+
+-- a test that is asked only where another passes
+pub implied : (a b : Bool) → T a → T (cond a b true) → T b
+implied true b t u = u
+implied false b t u = absurd t

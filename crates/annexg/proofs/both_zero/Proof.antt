@@ -1,3 +1,5 @@
+-- `annexg::both_zero` meets its contract.
+-- Assumes nothing.
 use mathlib.Core.Path.{refl}
 use Rattle.annexg.specs.Read.{bothZero}
 use borrow.Author.Needs.{needs}

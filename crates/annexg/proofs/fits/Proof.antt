@@ -1,3 +1,5 @@
+-- `annexg::fits` meets its contract.
+-- Assumes nothing.
 use borrow.Author.Tests.{ne-eqb, eq-eqb}
 use Rattle.annexg.specs.Read.{fitsOf}
 use Rattle.annexg.proofs.fits.Statement.{statement}

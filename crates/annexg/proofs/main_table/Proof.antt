@@ -1,3 +1,5 @@
+-- `annexg::main_table` meets its contract.
+-- Assumes nothing.
 use mathlib.Core.Path.{refl}
 use Rattle.annexg.specs.Tables.{mainTable}
 use Rattle.annexg.specs.Read.{tableOf}

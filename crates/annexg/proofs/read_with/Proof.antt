@@ -1,20 +1,16 @@
-use mathlib.Core.Path.{_≡_, refl, sym, ap, _∙_}
+-- `annexg::read_with` meets its contract. The search is followed entry by entry: `rest t k` is what is left of it from entry k of table t on.
+-- Assumes nothing.
+use mathlib.Core.Path.{_≡_, sym, ap, _∙_}
 use mathlib.Core.Bool.{true, false}
-use Prim.Native.Nat.{ℕ, suc, _+_, _*_, _-_, _≤_, _<_}
+use Prim.Native.Nat.{suc, _+_, _*_, _-_, _≤_, _<_}
 use native.Mathlib.Omega.{arith}
 use borrow.Author.Needs.{needs}
 use lib.ListN.{length, getD}
-use Rattle.annexg.specs.Read.{tableOf, entryOf, fitsOf, readGiven, readWord}
+use Rattle.annexg.specs.Read.{tableOf, fitsOf, readGiven, readWord}
 use Rattle.annexg.specs.declared.Reading.the-variants.{Byte}
 use Rattle.annexg.proofs.Search.{from, rest, start, pass, hit, over, moved}
 use Rattle.annexg.proofs.read_with.Statement.{statement}
 use Rattle.annexg.proofs.read_with.Tie as tie
-use Rattle.annexg.proofs.read_with.Reads as reads
-use Rattle.annexg.proofs.read_with.Lts as lts
-use Rattle.annexg.proofs.both_zero.Reads as both-zero-reads
-use Rattle.annexg.proofs.bytes_of.Reads as bytes-of-reads
-use Rattle.annexg.proofs.entry.Reads as entry-reads
-use Rattle.annexg.proofs.fits.Reads as fits-reads
 
 abbrev Inv-loop3 : tie.InvT-loop3
 Inv-loop3 m u w f z t n b s₀ s = (s ≤ 4) × (readWord w f ≡ rest w z t (b * 4 + s))
@@ -40,7 +36,6 @@ Inv-found m u w f z = readWord w f ≡ readGiven w z
 abbrev μ-found : tie.MeasureT-found
 μ-found m u w f z = 0
 
--- src/lib.rt:130:9
 both-zero-requires :
     tie.Need-both-zero-requires
     Inv-loop3
@@ -53,17 +48,14 @@ both-zero-requires :
     μ-found
 both-zero-requires c κs = search needs
 
--- src/lib.rt:131:5
 found-holds :
     tie.Need-found-holds Inv-loop3 μ-loop3 Inv-loop2 μ-loop2 Inv-loop μ-loop Inv-found μ-found
 found-holds c = ap (readGiven (c .before .args .w)) (sym (c .both-zero .ensures))
 
--- src/lib.rt:132:9
 loop-holds :
     tie.Need-loop-holds Inv-loop3 μ-loop3 Inv-loop2 μ-loop2 Inv-loop μ-loop Inv-found μ-found
 loop-holds c = (search needs, c .found .inv)
 
--- src/lib.rt:133:17
 bytes-of-requires :
     tie.Need-bytes-of-requires
     Inv-loop3
@@ -76,45 +68,36 @@ bytes-of-requires :
     μ-found
 bytes-of-requires c κs = search needs
 
--- src/lib.rt:134:13
 loop2-holds :
     tie.Need-loop2-holds Inv-loop3 μ-loop3 Inv-loop2 μ-loop2 Inv-loop μ-loop Inv-found μ-found
 loop2-holds c = (search needs, c .before .before .loop .inv .1 ∙ start _ _ _ (c .before .loop-test .taken))
 
--- src/lib.rt:135:17
 loop3-holds :
     tie.Need-loop3-holds Inv-loop3 μ-loop3 Inv-loop2 μ-loop2 Inv-loop μ-loop Inv-found μ-found
 loop3-holds c = (search needs, c .before .loop2 .inv .1 ∙ moved _ _ _ (omega arith))
 
--- src/lib.rt:136:44
 cast-entry :
     tie.Need-cast-entry Inv-loop3 μ-loop3 Inv-loop2 μ-loop2 Inv-loop μ-loop Inv-found μ-found
 cast-entry c = omega arith
 
--- src/lib.rt:136:25
 entry-requires :
     tie.Need-entry-requires Inv-loop3 μ-loop3 Inv-loop2 μ-loop2 Inv-loop μ-loop Inv-found μ-found
 entry-requires c κs = c .before .before .before .before .before .before .before .before .before .pre
 
--- src/lib.rt:137:24
 fits-requires :
     tie.Need-fits-requires Inv-loop3 μ-loop3 Inv-loop2 μ-loop2 Inv-loop μ-loop Inv-found μ-found
 fits-requires c κs = search needs
 
--- src/lib.rt:138:52
 cast-t17 : tie.Need-cast-t17 Inv-loop3 μ-loop3 Inv-loop2 μ-loop2 Inv-loop μ-loop Inv-found μ-found
 cast-t17 c = omega arith
 
--- src/lib.rt:135:21
 add-s : tie.Need-add-s Inv-loop3 μ-loop3 Inv-loop2 μ-loop2 Inv-loop μ-loop Inv-found μ-found
 add-s c = search needs
 
--- src/lib.rt:135:17
 loop3-less :
     tie.Need-loop3-less Inv-loop3 μ-loop3 Inv-loop2 μ-loop2 Inv-loop μ-loop Inv-found μ-found
 loop3-less c = search needs
 
--- src/lib.rt:135:17
 loop3-again :
     tie.Need-loop3-again Inv-loop3 μ-loop3 Inv-loop2 μ-loop2 Inv-loop μ-loop Inv-found μ-found
 loop3-again c =
@@ -126,34 +109,28 @@ loop3-again c =
     let k = l2 .loop2 .b * 4 + l3 .loop3 .s in
     let inside : k < length (tableOf (l1 .loop .t)) = omega (arith, l2 .before .bytes-of .ensures .0) in
     let unfit : fitsOf (a .w) z (getD (tableOf (l1 .loop .t)) k 0) ≡ false =
-        ap (fitsOf (a .w) z) (sym (c .before .before .entry .ensures)) ∙ sym (c .before .fits2 .ensures) ∙ c .if1 .left
+    ap (fitsOf (a .w) z) (sym (c .before .before .entry .ensures)) ∙ sym (c .before .fits2 .ensures) ∙ c .if1 .left
     in
     (search needs, l3 .loop3 .inv .1 ∙ pass (a .w) z _ k inside unfit ∙ moved _ _ _ (omega arith))
 
--- src/lib.rt:134:17
 add-b : tie.Need-add-b Inv-loop3 μ-loop3 Inv-loop2 μ-loop2 Inv-loop μ-loop Inv-found μ-found
 add-b c = search needs
 
--- src/lib.rt:134:13
 loop2-less :
     tie.Need-loop2-less Inv-loop3 μ-loop3 Inv-loop2 μ-loop2 Inv-loop μ-loop Inv-found μ-found
 loop2-less c = search needs
 
--- src/lib.rt:134:13
 loop2-again :
     tie.Need-loop2-again Inv-loop3 μ-loop3 Inv-loop2 μ-loop2 Inv-loop μ-loop Inv-found μ-found
 loop2-again c = (search needs, c .before .loop3 .inv .1 ∙ moved _ _ _ (omega arith))
 
--- src/lib.rt:132:13
 add-t : tie.Need-add-t Inv-loop3 μ-loop3 Inv-loop2 μ-loop2 Inv-loop μ-loop Inv-found μ-found
 add-t c = search needs
 
--- src/lib.rt:132:9
 loop-less :
     tie.Need-loop-less Inv-loop3 μ-loop3 Inv-loop2 μ-loop2 Inv-loop μ-loop Inv-found μ-found
 loop-less c = search needs
 
--- src/lib.rt:132:9
 loop-again :
     tie.Need-loop-again Inv-loop3 μ-loop3 Inv-loop2 μ-loop2 Inv-loop μ-loop Inv-found μ-found
 loop-again c =
@@ -164,7 +141,6 @@ loop-again c =
     let past : length (tableOf (l1 .loop .t)) ≤ c .before .loop2 .b * 4 = omega (arith, c .before .before .bytes-of .ensures .0) in
     (search needs, c .before .loop2 .inv .1 ∙ over (a .w) z _ _ past ∙ ap (from (a .w) z) next)
 
--- src/lib.rt:126:1
 returns : tie.Need-returns Inv-loop3 μ-loop3 Inv-loop2 μ-loop2 Inv-loop μ-loop Inv-found μ-found
 returns c =
     let l3 = c .before .before .before .before in
@@ -175,11 +151,10 @@ returns c =
     let k = l2 .loop2 .b * 4 + l3 .loop3 .s in
     let inside : k < length (tableOf (l1 .loop .t)) = omega (arith, l2 .before .bytes-of .ensures .0) in
     let fit : fitsOf (a .w) z (getD (tableOf (l1 .loop .t)) k 0) ≡ true =
-        ap (fitsOf (a .w) z) (sym (c .before .before .entry .ensures)) ∙ sym (c .before .fits2 .ensures) ∙ c .if1 .taken
+    ap (fitsOf (a .w) z) (sym (c .before .before .entry .ensures)) ∙ sym (c .before .fits2 .ensures) ∙ c .if1 .taken
     in
     sym (l3 .loop3 .inv .1 ∙ hit (a .w) z _ k inside fit ∙ ap Byte (omega arith))
 
--- src/lib.rt:126:1
 returns-2 :
     tie.Need-returns-2 Inv-loop3 μ-loop3 Inv-loop2 μ-loop2 Inv-loop μ-loop Inv-found μ-found
 returns-2 c =

@@ -1,3 +1,5 @@
+-- `annexg::sync_code` meets its contract.
+-- Assumes nothing.
 use mathlib.Core.List.{List}
 use mathlib.Core.Path.{_≡_, sym, ap₂}
 use Prim.Native.Nat.{ℕ, _+_, _*_, _-_, _/_, _≤_}
@@ -9,51 +11,37 @@ use Rattle.annexg.proofs.Sync.{length-sync}
 use borrow.Author.Needs.{needs}
 use Rattle.annexg.proofs.sync_code.Statement.{statement}
 use Rattle.annexg.proofs.sync_code.Tie as tie
-use Rattle.annexg.proofs.sync_code.Reads as reads
-use Rattle.annexg.proofs.sync_code.Lts as lts
-use Rattle.annexg.proofs.class_of.Reads as class-of-reads
-use Rattle.annexg.proofs.digit.Reads as digit-reads
 
--- src/lib.rt:89:14
 class-of-requires : tie.Need-class-of-requires
 class-of-requires c κs = search needs
 
--- src/lib.rt:89:14
 mul-at : tie.Need-mul-at
 mul-at c = search needs
 
--- src/lib.rt:89:33
 mul-at-2 : tie.Need-mul-at-2
 mul-at-2 c = search needs
 
--- src/lib.rt:89:14
 add-at : tie.Need-add-at
 add-at c = search needs
 
--- src/lib.rt:89:52
 digit-requires : tie.Need-digit-requires
 digit-requires c κs = search needs
 
--- src/lib.rt:89:14
 add-at-2 : tie.Need-add-at-2
 add-at-2 c = search needs
 
--- src/lib.rt:90:18
 mul-result : tie.Need-mul-result
 mul-result c = search needs
 
--- src/lib.rt:90:18
 element-copy-out-result : tie.Need-element-copy-out-result
 element-copy-out-result c = search needs
 
--- src/lib.rt:85:1
 returns : tie.Need-returns
 returns c =
     let a = c .before .before .before .before .args in
     let e : c .before .before .before .class-of .result * 16 + a .n * 2 + c .before .before .digit .result ≡ (a .s - 1) / 2 * 16 + a .n * 2 + bit (a .c) = omega arith in
     ap₂ (λ (l : List ℕ) (k : ℕ). getD l k 0) (c .before .before .before .before .pre) e
 
--- src/lib.rt:85:1
 returns-2 : tie.Need-returns-2
 returns-2 c =
     let a = c .before .before .before .args in

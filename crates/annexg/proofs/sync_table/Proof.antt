@@ -1,3 +1,5 @@
+-- `annexg::sync_table` meets its contract.
+-- Assumes nothing.
 use mathlib.Core.Path.{refl}
 use Rattle.annexg.specs.Sync.{syncTable}
 use Rattle.annexg.proofs.sync_table.Statement.{statement}

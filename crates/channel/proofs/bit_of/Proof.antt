@@ -1,3 +1,5 @@
+-- `channel::bit_of` meets its contract.
+-- Assumes nothing.
 use Rattle.channel.proofs.Steps.{odd-bit}
 use borrow.Author.Needs.{needs}
 use Rattle.channel.proofs.bit_of.Statement.{statement}

@@ -1,3 +1,5 @@
+-- `channel::joins` meets its contract.
+-- Assumes nothing.
 use Prim.Native.Nat.{_+_}
 use mathlib.Core.Path.{sym, ap₂, _∙_}
 use Rattle.channel.proofs.Steps.{join-run}

@@ -1,6 +1,6 @@
-use borrow.Author.Needs.{needs}
-use Prim.Native.Nat.{_≤_, _<_, _+_, _-_}
-use mathlib.Core.Path.{_≡_, refl, ap, sym, _∙_}
+-- `channel::lead_of` meets its contract. `Leads` counts the bits passed, all ZERO.
+-- Assumes nothing.
+use Prim.Native.Nat.{_≤_}
 use native.Mathlib.Omega.{arith}
 use Rattle.channel.proofs.Steps.{Leads, leads-all, leads-one, leads-zero, leads-none}
 use Rattle.channel.proofs.lead_of.Statement.{statement}

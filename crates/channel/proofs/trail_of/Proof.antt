@@ -1,6 +1,6 @@
-use borrow.Author.Needs.{needs}
-use Prim.Native.Nat.{_≤_, _<_, _+_, _-_}
-use mathlib.Core.Path.{_≡_, refl, ap, sym, _∙_}
+-- `channel::trail_of` meets its contract. `Trails` counts the bits passed, all ZERO.
+-- Assumes nothing.
+use Prim.Native.Nat.{_≤_, _-_}
 use native.Mathlib.Omega.{arith}
 use Rattle.channel.proofs.Steps.{Trails, trails-all, trails-one, trails-zero, trails-none}
 use Rattle.channel.proofs.trail_of.Statement.{statement}

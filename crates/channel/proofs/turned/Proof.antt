@@ -1,3 +1,5 @@
+-- `channel::turned` meets its contract.
+-- Assumes nothing.
 use mathlib.Core.Path.{refl}
 use native.Mathlib.Omega.{arith}
 use borrow.Author.Needs.{needs}

@@ -1,3 +1,5 @@
+-- `channel::Run::bit` meets its contract.
+-- Assumes nothing.
 use borrow.Author.Needs.{needs}
 use Rattle.channel.proofs.Run.bit.Statement.{statement}
 use Rattle.channel.proofs.Run.bit.Tie as tie

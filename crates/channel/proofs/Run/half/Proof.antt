@@ -1,3 +1,5 @@
+-- `channel::Run::half` meets its contract. `Left` says what is still to be done over the lowest n bits; each bit moves the DSV by one, so there is room.
+-- Assumes nothing.
 use Prim.Native.Nat.{_≤_, _<_, _+_, _-_, _/_, _%_, _^_}
 use mathlib.Core.Path.{_≡_, refl, ap, _∙_}
 use native.Mathlib.Omega.{arith}

@@ -1,3 +1,5 @@
+-- `channel::Run::sync` meets its contract. Two half words one after the other are one list of two.
+-- Assumes nothing.
 use mathlib.Core.Path.{ap, subst, sym, _∙_}
 use mathlib.Core.List.{[], _∷_}
 use Rattle.annexg.specs.Sync.{syncEnd}

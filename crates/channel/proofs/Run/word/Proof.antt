@@ -1,3 +1,5 @@
+-- `channel::Run::word` meets its contract.
+-- Assumes nothing.
 use Rattle.channel.proofs.Steps.{other-state}
 use borrow.Author.Needs.{needs}
 use Rattle.channel.proofs.Run.word.Statement.{statement}
