@@ -1,0 +1,58 @@
+-- `codewords::chamanzil_correct_column` meets its contract. Assumes nothing.
+use mathlib.Core.List.{List}
+use mathlib.Core.Path.{_∙_, ap}
+use Prim.Native.Nat.{ℕ}
+use native.Mathlib.Omega.{arith}
+use Rattle.codes.specs.Nearest.{nearest, outcomeOf}
+use Rattle.ffi.specs.Answers.{outcomeNumber}
+use borrow.Author.Needs.{needs}
+use Rattle.ffi.proofs.Lengths.{repair-refused, repaired}
+use Rattle.ffi.proofs.codewords.chamanzil_correct_column.Statement.{statement}
+use Rattle.ffi.proofs.codewords.chamanzil_correct_column.Tie as tie
+
+returns : tie.Need-returns
+returns c = repair-refused 208 16 8 (c .before .before .args .column .now) (c .if1 .taken)
+
+slice-aggregate-copy : tie.Need-slice-aggregate-copy
+slice-aggregate-copy c = search needs
+
+copy-requires : tie.Need-copy-requires
+copy-requires c κs = search needs
+
+correct-column-requires : tie.Need-correct-column-requires
+correct-column-requires c κs = search needs
+
+slice-aggregate-copy-2 : tie.Need-slice-aggregate-copy-2
+slice-aggregate-copy-2 c = search needs
+
+copy-requires-2 : tie.Need-copy-requires-2
+copy-requires-2 c κs = omega (arith, slice-aggregate-copy-2 (c .before), c .before .before .before .before .before .before .before .before .if1 .left)
+
+outcome-number-requires : tie.Need-outcome-number-requires
+outcome-number-requires c κs = search needs
+
+same-length : tie.Need-same-length
+same-length c = search needs
+
+returns-2 : tie.Need-returns-2
+returns-2 c =
+    let w = c .before .before .before .before .before .before .before .before .before .before .before .before .before .before .args .column .now in
+    let copied = c .before .before .before .before .before .before .before .before .before .copy .ensures in
+    let made = c .before .before .before .before .before .before .before .correct-column .ensures in
+    repaired 208 16 8 _ w _ (c .before .before .before .before .before .before .before .before .before .before .before .before .if1 .left)
+    (c .outcome-number .ensures ∙ ap outcomeNumber (made .1) ∙ ap (λ (v : List ℕ). outcomeNumber (outcomeOf 16 8 v)) copied)
+    (c .before .before .before .copy2 .ensures ∙ made .0 ∙ ap (nearest 16 8) copied)
+
+pub chamanzil-correct-column-spec : {M : Type 1} → statement M
+chamanzil-correct-column-spec =
+    tie.close
+    (tie.spec
+    returns
+    slice-aggregate-copy
+    copy-requires
+    correct-column-requires
+    slice-aggregate-copy-2
+    copy-requires-2
+    outcome-number-requires
+    same-length
+    returns-2)

@@ -1,0 +1,16 @@
+// The C boundary, for tests and benchmarks in Rust: numbers and byte slices only. A `&[u8]` passes as a pointer and a length. No function has a `requires`:
+// a buffer of another length than stated gets refusal 1 (document 01) and everything is left as it was.
+mod blocks;
+mod codewords;
+mod words;
+
+pub use blocks::chamanzil_encode_block;
+pub use codewords::chamanzil_column_parity;
+pub use codewords::chamanzil_correct_column;
+pub use codewords::chamanzil_correct_row;
+pub use codewords::chamanzil_ied;
+pub use codewords::chamanzil_power;
+pub use codewords::chamanzil_product;
+pub use codewords::chamanzil_row_parity;
+pub use words::chamanzil_read_word;
+pub use words::chamanzil_runs_hold;

@@ -1,0 +1,36 @@
+// Code Words and streams of code bits.
+ghost use mathlib.Core.Path.{_≡_};
+ghost use mathlib.Core.Bool.{_&&_};
+ghost use lib.Dec.{leb};
+ghost use lib.ListN.{length};
+ghost use Rattle.lists.specs.Count.{bit};
+ghost use Rattle.annexg.specs.Read.{readWord};
+ghost use Rattle.channel.specs.Bits.{runsHold};
+ghost use Rattle.ffi.specs.Answers.{readingNumber};
+use annexg::Reading;
+
+fn reading_number(r: Reading) -> u32
+    ensures { λ n. ⌜ n ≡ readingNumber r ⌝ }
+{
+    match r {
+        Reading::Byte(b) => b as u32,
+        Reading::Unknown => 256,
+    }
+}
+
+// The byte that a word stands for where the half word `following` comes after it; 256 for an unknown word.
+#[no_mangle]
+pub extern "C" fn chamanzil_read_word(word: u16, following: u16) -> u32
+    ensures { λ r. ⌜ r ≡ readingNumber (readWord word following) ⌝ }
+{
+    let r = annexg::read_word(word, following);
+    reading_number(r)
+}
+
+// 1 where a stream is no longer than a block's and has the zero runs that a block may have, else 0.
+#[no_mangle]
+pub extern "C" fn chamanzil_runs_hold(stream: &[u8]) -> u32
+    ensures { λ r. ⌜ r ≡ bit (leb (length (now (stream .entry))) 77380 && runsHold (now (stream .entry))) ⌝ }
+{
+    channel::runs_ok(stream) as u32
+}

@@ -1,0 +1,79 @@
+//! The proved library, through the C boundary of crate `ffi`: a `&[u8]` passes as a pointer and a length. The numbers are those of
+//! crates/ffi/specs/Answers.antt.
+use crate::rs::Fate;
+
+extern "C" {
+    fn chamanzil_product(a: u8, b: u8) -> u8;
+    fn chamanzil_power(a: u8, n: u64) -> u8;
+    fn chamanzil_ied(id: *const u8, id_len: usize, out: *mut u8, out_len: usize) -> u32;
+    fn chamanzil_row_parity(data: *const u8, data_len: usize, out: *mut u8, out_len: usize) -> u32;
+    fn chamanzil_column_parity(
+        data: *const u8,
+        data_len: usize,
+        out: *mut u8,
+        out_len: usize,
+    ) -> u32;
+    fn chamanzil_correct_row(row: *mut u8, row_len: usize) -> u32;
+    fn chamanzil_correct_column(column: *mut u8, column_len: usize) -> u32;
+    fn chamanzil_encode_block(
+        main: *const u8,
+        main_len: usize,
+        first: u32,
+        info: u8,
+        out: *mut u8,
+        out_len: usize,
+    ) -> u32;
+    fn chamanzil_read_word(word: u16, following: u16) -> u32;
+    fn chamanzil_runs_hold(stream: *const u8, stream_len: usize) -> u32;
+}
+
+pub fn product(a: u8, b: u8) -> u8 {
+    unsafe { chamanzil_product(a, b) }
+}
+
+pub fn power(a: u8, n: u64) -> u8 {
+    unsafe { chamanzil_power(a, n) }
+}
+
+pub fn ied(id: &[u8], out: &mut [u8]) -> u32 {
+    unsafe { chamanzil_ied(id.as_ptr(), id.len(), out.as_mut_ptr(), out.len()) }
+}
+
+pub fn row_parity(data: &[u8], out: &mut [u8]) -> u32 {
+    unsafe { chamanzil_row_parity(data.as_ptr(), data.len(), out.as_mut_ptr(), out.len()) }
+}
+
+pub fn column_parity(data: &[u8], out: &mut [u8]) -> u32 {
+    unsafe { chamanzil_column_parity(data.as_ptr(), data.len(), out.as_mut_ptr(), out.len()) }
+}
+
+pub fn correct_row(row: &mut [u8]) -> u32 {
+    unsafe { chamanzil_correct_row(row.as_mut_ptr(), row.len()) }
+}
+
+pub fn correct_column(column: &mut [u8]) -> u32 {
+    unsafe { chamanzil_correct_column(column.as_mut_ptr(), column.len()) }
+}
+
+/// The number for what became of a word.
+pub fn fate_number(fate: Fate) -> u32 {
+    match fate {
+        Fate::Unchanged => 0,
+        Fate::Changed => 16,
+        Fate::PastHelp => 17,
+    }
+}
+
+pub fn encode_block(main: &[u8], first: u32, info: u8, out: &mut [u8]) -> u32 {
+    let (to, size) = (out.as_mut_ptr(), out.len());
+    unsafe { chamanzil_encode_block(main.as_ptr(), main.len(), first, info, to, size) }
+}
+
+pub fn read_word(word: u16, following: u16) -> Option<u8> {
+    let answer = unsafe { chamanzil_read_word(word, following) };
+    u8::try_from(answer).ok()
+}
+
+pub fn runs_hold(stream: &[u8]) -> bool {
+    unsafe { chamanzil_runs_hold(stream.as_ptr(), stream.len()) == 1 }
+}

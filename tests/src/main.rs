@@ -1,0 +1,61 @@
+//! Compares the proved library with a second implementation, written from document 01 and ECMA-268. `tests/run` builds and runs it.
+mod block;
+mod blocks_test;
+mod codes_test;
+mod gf;
+mod library;
+mod random;
+mod reading;
+mod report;
+mod rs;
+mod tables;
+mod trial_data;
+mod vectors_test;
+mod writing;
+
+use random::Random;
+use reading::Reader;
+use report::Report;
+use std::path::Path;
+use std::process::ExitCode;
+use tables::Tables;
+
+fn round(report: &mut Report, seed: u64) {
+    vectors_test::all(report);
+    let mut random = Random::new(seed);
+    codes_test::field(report, &mut random);
+    codes_test::parities(report, &mut random, 2_000);
+    codes_test::repairs(report, &mut random, 5_000);
+    let (tables, reader) = (Tables::new(), Reader::new());
+    blocks_test::maker(report, &mut random, 1_000);
+    blocks_test::maker_refusals(report, &mut random);
+    blocks_test::words(report, &mut random, &reader);
+    blocks_test::streams(report, &mut random, &tables, 20);
+}
+
+/// `--trial-data FOLDER` writes cases for crate `trials`. `--long [SEED]` runs until stopped or until something differs, with a new seed each round.
+fn main() -> ExitCode {
+    let words: Vec<String> = std::env::args().skip(1).collect();
+    if words.first().is_some_and(|w| w == "--trial-data") {
+        trial_data::write(Path::new(&words[1])).expect("the folder of the trials' data");
+        return ExitCode::SUCCESS;
+    }
+    let is_long = words.first().is_some_and(|w| w == "--long");
+    let mut seed = words.get(1).map_or(1, |w| w.parse().expect("a seed is a number"));
+    let mut report = Report::new();
+    loop {
+        println!("seed {seed}");
+        round(&mut report, seed);
+        if !is_long || !report.is_clean() {
+            break;
+        }
+        seed += 1;
+    }
+    if report.is_clean() {
+        println!("tests: ok");
+        ExitCode::SUCCESS
+    } else {
+        println!("tests: FAILED, seed {seed}");
+        ExitCode::FAILURE
+    }
+}

@@ -1,0 +1,287 @@
+//! The choice between two streams (ECMA-268, clause 22; document 01), and streams with random choices: the second implementation.
+use crate::random::Random;
+use crate::tables::{joins, sync_numbers, Entry, Tables, SYNC_END};
+
+pub const SECTOR: usize = 2_366;
+pub const LAID: usize = 4_836;
+
+/// The writer's record.
+#[derive(Clone, Copy, Debug, PartialEq, Eq)]
+pub struct Record {
+    pub state: u8,
+    pub level: u8,
+    pub dsv: i64,
+    pub sectors: u32,
+    pub closed: bool,
+}
+
+impl Record {
+    pub fn start() -> Record {
+        Record {
+            state: 1,
+            level: 0,
+            dsv: 0,
+            sectors: 0,
+            closed: false,
+        }
+    }
+
+    /// Refusal 9.
+    pub fn is_bad(&self) -> bool {
+        let room = 38_688 * self.sectors as i128 + if self.closed { 32 } else { 0 };
+        !(1..=4).contains(&self.state)
+            || self.level > 1
+            || self.sectors > 16
+            || (self.closed && self.sectors < 16)
+            || (self.dsv as i128).abs() > room
+    }
+
+    pub fn sector_refusal(&self, from: usize, to: usize) -> u32 {
+        if from != SECTOR || to != LAID {
+            1
+        } else if self.is_bad() {
+            9
+        } else if self.closed || self.sectors == 16 {
+            7
+        } else {
+            0
+        }
+    }
+
+    pub fn closing_refusal(&self, to: usize) -> u32 {
+        if to != 4 {
+            1
+        } else if self.is_bad() {
+            9
+        } else if self.closed {
+            7
+        } else if self.sectors < 16 {
+            8
+        } else {
+            0
+        }
+    }
+}
+
+/// One of the two streams within a frame.
+#[derive(Clone)]
+struct Stream {
+    halves: Vec<u16>,
+    state: u8,
+    level: u8,
+    dsv: i64,
+}
+
+impl Stream {
+    fn lay(&mut self, half: u16) {
+        for n in (0..16).rev() {
+            self.level ^= (half >> n & 1) as u8;
+            self.dsv += if self.level == 1 { 1 } else { -1 };
+        }
+        self.halves.push(half);
+    }
+
+    fn lay_sync(&mut self, first: u16) {
+        self.lay(first);
+        self.lay(SYNC_END);
+        self.state = 1;
+    }
+
+    fn lay_entry(&mut self, e: Entry) {
+        self.lay(e.word);
+        self.state = e.next;
+    }
+
+    fn last(&self) -> u16 {
+        *self.halves.last().unwrap()
+    }
+
+    fn swaps(&self, t: &Tables, byte: u8) -> bool {
+        let fits = |state| joins(self.last(), t.main_word(byte, state).word);
+        byte >= 88 && (self.state == 1 || self.state == 4) && fits(1) && fits(4)
+    }
+}
+
+/// What the rule did in a frame, as the vectors' traces tell it.
+pub struct FrameTrace {
+    pub code: usize,
+    pub shown: usize,
+    pub tried: bool,
+    pub changed: bool,
+    pub first: u16,
+    pub dsvs: [i64; 2],
+    pub state: u8,
+    pub level: u8,
+    /// The DSV of the shown stream before the other code was tried, and with the other code.
+    pub dsv_kept_and_other: [i64; 2],
+}
+
+fn lower(streams: &[Stream; 2]) -> usize {
+    usize::from(streams[1].dsv.abs() < streams[0].dsv.abs())
+}
+
+fn step(t: &Tables, streams: &mut [Stream; 2], byte: u8) {
+    let low = lower(streams);
+    let swaps = [streams[0].swaps(t, byte), streams[1].swaps(t, byte)];
+    let is_split = byte < 88 || (swaps[0] && swaps[1]) || swaps[low];
+    if is_split {
+        streams[1 - low] = streams[low].clone();
+    }
+    let [one, two] = streams;
+    if byte < 88 {
+        one.lay_entry(t.main_word(byte, one.state));
+        two.lay_entry(t.sub_word(byte, two.state));
+    } else if is_split {
+        one.lay_entry(t.main_word(byte, 1));
+        two.lay_entry(t.main_word(byte, 4));
+    } else {
+        one.lay_entry(t.main_word(byte, one.state));
+        two.lay_entry(t.main_word(byte, two.state));
+    }
+}
+
+fn frame(t: &Tables, record: &mut Record, code: usize, bytes: &[u8], out: &mut Vec<u16>) -> FrameTrace {
+    let empty = Stream {
+        halves: Vec::new(),
+        state: record.state,
+        level: record.level,
+        dsv: record.dsv,
+    };
+    let codes = t.codes(record.state, code);
+    let mut streams = [empty.clone(), empty.clone()];
+    streams[0].lay_sync(codes[0]);
+    streams[1].lay_sync(codes[1]);
+    bytes.iter().for_each(|&b| step(t, &mut streams, b));
+    let dsvs = [streams[0].dsv, streams[1].dsv];
+    let shown = lower(&streams);
+    let mut kept = streams[shown].clone();
+    let tried = kept.dsv > 63 || kept.dsv < -64;
+    let other = with_code(&empty, &kept, codes[usize::from(kept.halves[0] == codes[0])]);
+    let dsv_kept_and_other = [kept.dsv, other.dsv];
+    let changed = tried && other.dsv.abs() < kept.dsv.abs();
+    if changed {
+        kept = other;
+    }
+    let first = kept.halves[0];
+    (record.state, record.level, record.dsv) = (kept.state, kept.level, kept.dsv);
+    out.extend(kept.halves);
+    FrameTrace {
+        code,
+        shown: shown + 1,
+        tried,
+        changed,
+        first,
+        dsvs,
+        state: record.state,
+        level: record.level,
+        dsv_kept_and_other,
+    }
+}
+
+/// The same words after another SYNC Code, counted anew from the frame's start.
+fn with_code(empty: &Stream, laid: &Stream, first: u16) -> Stream {
+    let mut other = empty.clone();
+    other.lay(first);
+    laid.halves[1..].iter().for_each(|&h| other.lay(h));
+    other.state = laid.state;
+    other
+}
+
+fn packed(halves: &[u16]) -> Vec<u8> {
+    halves.iter().flat_map(|h| h.to_be_bytes()).collect()
+}
+
+pub fn write_sector(t: &Tables, record: &mut Record, bytes: &[u8]) -> (Vec<u8>, Vec<FrameTrace>) {
+    let mut halves = Vec::new();
+    let frames = bytes.chunks(91).zip(sync_numbers());
+    let traces = frames.map(|(part, code)| frame(t, record, code, part, &mut halves)).collect();
+    record.sectors += 1;
+    (packed(&halves), traces)
+}
+
+pub fn close(t: &Tables, record: &mut Record) -> Vec<u8> {
+    let mut stream = Stream {
+        halves: Vec::new(),
+        state: record.state,
+        level: record.level,
+        dsv: record.dsv,
+    };
+    stream.lay_sync(t.codes(record.state, 0)[0]);
+    (record.state, record.level, record.dsv) = (stream.state, stream.level, stream.dsv);
+    record.closed = true;
+    packed(&stream.halves)
+}
+
+/// A whole block by the two-stream rule, and the record after each sector and after closing.
+pub fn write_block(t: &Tables, block: &[u8]) -> (Vec<u8>, Vec<Record>) {
+    let mut record = Record::start();
+    let mut stream = Vec::new();
+    let mut records = Vec::new();
+    for sector in block.chunks(SECTOR) {
+        stream.extend(write_sector(t, &mut record, sector).0);
+        records.push(record);
+    }
+    stream.extend(close(t, &mut record));
+    records.push(record);
+    (stream, records)
+}
+
+/// The half words that may stand for a byte in a State, with their next States (document 01, 'Permitted choices').
+pub fn permitted(t: &Tables, byte: u8, state: u8, last: u16) -> Vec<Entry> {
+    if byte < 88 {
+        return vec![t.main_word(byte, state), t.sub_word(byte, state)];
+    }
+    if state == 2 || state == 3 {
+        return vec![t.main_word(byte, state)];
+    }
+    let both = [t.main_word(byte, 1), t.main_word(byte, 4)];
+    both.into_iter().filter(|e| joins(last, e.word)).collect()
+}
+
+/// Picks one of several half words.
+pub trait Chooser {
+    fn pick(&mut self, words: &[u16]) -> Option<usize>;
+}
+
+impl Chooser for Random {
+    fn pick(&mut self, words: &[u16]) -> Option<usize> {
+        Some(self.below(words.len()))
+    }
+}
+
+/// Takes the words that another stream has, one after the other.
+pub struct Follow<'a> {
+    pub stream: &'a [u8],
+    pub at: usize,
+}
+
+impl Chooser for Follow<'_> {
+    fn pick(&mut self, words: &[u16]) -> Option<usize> {
+        let half = u16::from_be_bytes([*self.stream.get(self.at)?, *self.stream.get(self.at + 1)?]);
+        self.at += 2;
+        words.iter().position(|&w| w == half)
+    }
+}
+
+/// The permitted stream of a block that a chooser takes, with its closing code, or none where the chooser finds no permitted word.
+pub fn permitted_stream(t: &Tables, block: &[u8], chooser: &mut dyn Chooser) -> Option<Vec<u8>> {
+    let mut halves = Vec::new();
+    let mut state = 1;
+    for (f, part) in block.chunks(91).enumerate() {
+        let codes = t.codes(state, sync_numbers()[f % 26]);
+        halves.push(codes[chooser.pick(&codes)?]);
+        halves.push(SYNC_END);
+        chooser.pick(&[SYNC_END])?;
+        state = 1;
+        for &byte in part {
+            let entries = permitted(t, byte, state, *halves.last().unwrap());
+            let words: Vec<u16> = entries.iter().map(|e| e.word).collect();
+            let e = entries[chooser.pick(&words)?];
+            halves.push(e.word);
+            state = e.next;
+        }
+    }
+    halves.push(t.codes(state, 0)[0]);
+    halves.push(SYNC_END);
+    Some(packed(&halves))
+}
