@@ -89,7 +89,7 @@ unfolding allProper
 proper-append [] ys p q = q
 proper-append (x ∷ xs) ys p q = and-both (proper x) (allProper (xs ++ ys)) (and-left (proper x) (allProper xs) p) (proper-append xs ys (and-right (proper x) (allProper xs) p) q)
 
-proper-bytes : (xs : List ℕ) → Bytes xs → T (allProper (map byte xs))
+pub proper-bytes : (xs : List ℕ) → Bytes xs → T (allProper (map byte xs))
 unfolding allProper Bytes
 proper-bytes [] h = tt
 proper-bytes (x ∷ xs) h = and-both (proper (byte x)) (allProper (map byte xs)) (lt→ltb x 256 (h .0)) (proper-bytes xs (h .1))
@@ -102,7 +102,7 @@ codes-length : length frameCodes ≡ 26
 unfolding frameCodes
 codes-length = refl
 
-code-proper : (f : ℕ) → T (proper (sync (codeOf f)))
+pub code-proper : (f : ℕ) → T (proper (sync (codeOf f)))
 unfolding codeOf
 code-proper f = every-at (λ (k n : ℕ). ltb n 8) frameCodes codes-test (f % 26) (omega (arith, codes-length))
 

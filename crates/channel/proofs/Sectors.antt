@@ -34,7 +34,7 @@ half-of k i = omega arith
 pub half-small : (i : ℕ) → i < 2366 → halfOf i < 2418
 half-small i h = omega arith
 
-part-read : (xs : List ℕ) (k i : ℕ) → i < 2366 → readAt (sectorPart xs k) i ≡ readAt xs (2366 * k + i)
+pub part-read : (xs : List ℕ) (k i : ℕ) → i < 2366 → readAt (sectorPart xs k) i ≡ readAt xs (2366 * k + i)
 unfolding readAt
 part-read xs k i h =
     let a = half-of k i in

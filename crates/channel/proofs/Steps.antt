@@ -188,7 +188,7 @@ dsv-near l d (b ∷ bs) h k =
     let r = dsv-near (flipped l b) (d + 2 * flipped l b - 1) bs f (omega arith) in
     (omega (arith, r .0), omega (arith, r .1))
 
-bits-length : (hs : List ℕ) → length (bitsAll hs) ≡ 16 * length hs
+pub bits-length : (hs : List ℕ) → length (bitsAll hs) ≡ 16 * length hs
 unfolding bitsAll
 bits-length [] = refl
 bits-length (h ∷ hs) = length-append (bitsOf 16 h) (bitsAll hs) ∙ omega (arith, bits-length hs)

@@ -2,3 +2,5 @@ pub mod Chain
 pub mod ReadBytes
 pub mod Demand
 pub mod Undamaged
+pub mod SectorLoop
+pub mod Answers

@@ -1,3 +1,7 @@
+-- `answer_of` meets its contract. Assumes nothing.
+use mathlib.Core.Path.{_≡_, sym, ap}
+use Rattle.repairer.specs.declared.Repaired.{Repaired}
+use Rattle.roundtrip.specs.BlockReader.{withSums}
 use borrow.Author.Needs.{needs}
 use Rattle.roundtrip.proofs.answer_of.Statement.{statement}
 use Rattle.roundtrip.proofs.answer_of.Tie as tie
@@ -18,11 +22,15 @@ enum-told c = search needs
 
 -- src/lib.rt:77:1
 returns : tie.Need-returns
-returns c = ?
+returns c =
+    let s = c .before .before .before in
+    sym (ap (λ (r : Repaired). withSums r (s .args .s .unknown) (s .args .s .sync)) (c .before .r .given .1))
 
 -- src/lib.rt:77:1
 returns-2 : tie.Need-returns-2
-returns-2 c = ?
+returns-2 c =
+    let s = c .before .before .before in
+    sym (ap (λ (r : Repaired). withSums r (s .args .s .unknown) (s .args .s .sync)) (c .before .r2 .given .1))
 
 -- src/lib.rt:77:1
 returns-3 : tie.Need-returns-3

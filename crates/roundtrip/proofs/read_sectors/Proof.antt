@@ -1,3 +1,16 @@
+-- `read_sectors` meets its contract. Assumes nothing.
+use mathlib.Core.Path.{_≡_, refl, sym, ap, ap₂, _∙_, subst}
+use mathlib.Core.List.{List, _++_}
+use Prim.Native.Nat.{ℕ, _+_, _-_, _*_, _<_, _≤_}
+use lib.ListN.{length, getD, take, drop, length-drop}
+use lib.Seq.{length-take-le}
+use Rattle.lists.proofs.Fill.{Upto, upto-none}
+use Rattle.channel.specs.Block.{readAt, sectorPart}
+use Rattle.reader.specs.Sector.{unknownTally, syncTally}
+use Rattle.roundtrip.specs.BlockReader.{sectorSum}
+use Rattle.roundtrip.proofs.SectorLoop.{upto-put, sector-bytes, sector-length, sums-next, unknown-le, sync-le, sum-next, sum-end, sectors-all}
+use native.Mathlib.Omega.{arith}
+use borrow.Author.Needs.{needs}
 use Rattle.roundtrip.proofs.read_sectors.Statement.{statement}
 use Rattle.roundtrip.proofs.read_sectors.Tie as tie
 use Rattle.roundtrip.proofs.read_sectors.Reads as reads
@@ -9,94 +22,106 @@ use Rattle.reader.proofs.read_sector_with.Reads as read-sector-with-reads
 use Rattle.roundtrip.proofs.Sums.with.Reads as with-reads
 
 abbrev Inv-loop : tie.InvT-loop
-Inv-loop stream block₀ m u y s₀ k₀ block s k = ?
+Inv-loop stream block₀ m u y s₀ k₀ block s k =
+    (k ≤ 16) × Upto (readAt stream) block₀ block (2366 * k) × (s .unknown ≤ 2366 * k) × (s .sync ≤ 26 * k)
+    × (s .unknown + sectorSum unknownTally stream k (16 - k) ≡ sectorSum unknownTally stream 0 16) × (s .sync + sectorSum syncTally stream k (16 - k) ≡ sectorSum syncTally stream 0 16)
 
 abbrev μ-loop : tie.MeasureT-loop
-μ-loop stream block₀ m u y s₀ k₀ block s k = ?
+μ-loop stream block₀ m u y s₀ k₀ block s k = 16 - k
 
--- src/lib.rt:57:13
 main-table-requires : tie.Need-main-table-requires Inv-loop μ-loop
-main-table-requires c κs = ?
+main-table-requires c κs = search needs
 
--- src/lib.rt:58:13
 sub-table-requires : tie.Need-sub-table-requires Inv-loop μ-loop
-sub-table-requires c κs = ?
+sub-table-requires c κs = search needs
 
--- src/lib.rt:59:13
 sync-table-requires : tie.Need-sync-table-requires Inv-loop μ-loop
-sync-table-requires c κs = ?
+sync-table-requires c κs = search needs
 
--- src/lib.rt:65:5
 loop-holds : tie.Need-loop-holds Inv-loop μ-loop
-loop-holds c = ?
+loop-holds c = (omega arith, upto-none _ _, omega arith, omega arith, omega arith, omega arith)
 
--- src/lib.rt:66:20
 mul-from : tie.Need-mul-from Inv-loop μ-loop
-mul-from c = ?
+mul-from c = omega arith
 
--- src/lib.rt:67:18
 add-to : tie.Need-add-to Inv-loop μ-loop
-add-to c = ?
+add-to c = omega arith
 
--- src/lib.rt:68:18
 mul-at : tie.Need-mul-at Inv-loop μ-loop
-mul-at c = ?
+mul-at c = omega arith
 
--- src/lib.rt:69:19
 add-end : tie.Need-add-end Inv-loop μ-loop
-add-end c = ?
+add-end c = omega arith
 
--- src/lib.rt:70:54
 sub-read-sector-with : tie.Need-sub-read-sector-with Inv-loop μ-loop
-sub-read-sector-with c = ?
+sub-read-sector-with c = omega arith
 
--- src/lib.rt:70:54
 part-read-sector-with-start : tie.Need-part-read-sector-with-start Inv-loop μ-loop
-part-read-sector-with-start c = ?
+part-read-sector-with-start c = omega arith
 
--- src/lib.rt:70:54
 part-read-sector-with-end : tie.Need-part-read-sector-with-end Inv-loop μ-loop
-part-read-sector-with-end c = ?
+part-read-sector-with-end c = omega arith
 
--- src/lib.rt:70:73
 sub-read-sector-with-2 : tie.Need-sub-read-sector-with-2 Inv-loop μ-loop
-sub-read-sector-with-2 c = ?
+sub-read-sector-with-2 c = omega arith
 
--- src/lib.rt:70:73
 part-read-sector-with-start-2 : tie.Need-part-read-sector-with-start-2 Inv-loop μ-loop
-part-read-sector-with-start-2 c = ?
+part-read-sector-with-start-2 c = omega arith
 
--- src/lib.rt:70:73
 part-read-sector-with-end-2 : tie.Need-part-read-sector-with-end-2 Inv-loop μ-loop
-part-read-sector-with-end-2 c = ?
+part-read-sector-with-end-2 c = omega arith
 
--- src/lib.rt:70:13
 read-sector-with-requires : tie.Need-read-sector-with-requires Inv-loop μ-loop
-read-sector-with-requires c κs = ?
+read-sector-with-requires c κs = (c .before .before .before .before .before .before .before .before .before .main-table .ensures, c .before .before .before .before .before .before .before .before .sub-table .ensures, c .before .before .before .before .before .before .before .sync-table .ensures)
 
--- src/lib.rt:71:9
 with-requires : tie.Need-with-requires Inv-loop μ-loop
-with-requires c κs = ?
+with-requires c κs =
+    let l = c .before .before .before .before .before .before .before .before .before .loop in
+    (omega arith, omega arith)
 
--- src/lib.rt:72:9
 add-k : tie.Need-add-k Inv-loop μ-loop
-add-k c = ?
+add-k c = omega arith
 
--- src/lib.rt:65:5
 loop-less : tie.Need-loop-less Inv-loop μ-loop
-loop-less c = ?
+loop-less c = omega arith
 
--- src/lib.rt:65:5
 loop-again : tie.Need-loop-again Inv-loop μ-loop
-loop-again c = ?
+loop-again c =
+    let s = c .before .before .before .before .before .before .before .before .before .before .before .before .before .before .before .before in
+    let l = c .before .before .before .before .before .before .before .before .before .before .loop in
+    let d : List ℕ = take (4836 * l .k + 4838 - 4836 * l .k) (drop (4836 * l .k) (s .args .stream .now)) in
+    let o : List ℕ = take (2366 * l .k + 2366 - 2366 * l .k) (drop (2366 * l .k) (l .block)) in
+    let hk : l .k < 16 = omega arith in
+    let a : 4836 * l .k + 4838 - 4836 * l .k ≡ 4838 = omega arith in
+    let b : 2366 * l .k + 2366 - 2366 * l .k ≡ 2366 = omega arith in
+    let lb : length (l .block) ≡ 37856 = l .inv .1 .same ∙ s .pre .1 in
+    let e : d ≡ sectorPart (s .args .stream .now) (l .k) = ap (λ (n : ℕ). take n (drop (4836 * l .k) (s .args .stream .now))) a in
+    let lo : length o ≡ 2366 = ap (λ (n : ℕ). length (take n (drop (2366 * l .k) (l .block)))) b ∙ length-take-le 2366 (drop (2366 * l .k) (l .block)) (rw length-drop (omega arith)) in
+    let r = c .before .before .before .read-sector-with .ensures in
+    let m = sums-next (s .args .stream .now) d (l .k) hk (s .pre .0) e (l .s) (c .with .result) (length o) _ lo (r .0) (c .with .ensures) in
+    let x : 2366 * l .k + 2366 ≡ 2366 * (l .k + 1) = omega arith in (
+      omega arith,
+      upto-put (readAt (s .args .stream .now)) (s .args .block .now) (l .block) (c .before .before .before .read-sector-with .last .1 .1 .1 .1 .0) (2366 * l .k) 2366 (2366 * l .k + 2366 - 2366 * l .k) (2366 * (l .k + 1)) b (sym x) (omega (arith, lb))
+          (ap length (r .1) ∙ sector-length (s .args .stream .now) d (l .k) hk (s .pre .0) e o lo)
+          (λ i h. ap (λ (z : List ℕ). getD z i 0) (r .1) ∙ sector-bytes (s .args .stream .now) d (l .k) hk (s .pre .0) e o lo i h) (l .inv .1),
+      omega (arith, m .0, unknown-le (sectorPart (s .args .stream .now) (l .k)), l .inv .2),
+      omega (arith, m .1, sync-le (sectorPart (s .args .stream .now) (l .k)), l .inv .3),
+      omega (arith, m .0, sum-next unknownTally (s .args .stream .now) (l .k) hk, l .inv .4),
+      omega (arith, m .1, sum-next syncTally (s .args .stream .now) (l .k) hk, l .inv .5),
+    )
 
--- src/lib.rt:53:1
 same-length : tie.Need-same-length Inv-loop μ-loop
-same-length c = ?
+same-length c = c .before .loop .inv .1 .same
 
--- src/lib.rt:53:1
 returns : tie.Need-returns Inv-loop μ-loop
-returns c = ?
+returns c =
+    let s = c .before .before .before .before .before .before .before in
+    let l = c .before .loop in
+    let e : 2366 * l .k ≡ 37856 = omega arith in (
+      sectors-all (s .args .stream .now) (s .args .block .now) (l .block) (s .pre .1) (rw e at (l .inv .1)),
+      omega (arith, sum-end unknownTally (s .args .stream .now) (l .k) (omega arith), l .inv .4),
+      omega (arith, sum-end syncTally (s .args .stream .now) (l .k) (omega arith), l .inv .5),
+    )
 
 pub read-sectors-spec : {M : Type 1} → statement M
 read-sectors-spec =

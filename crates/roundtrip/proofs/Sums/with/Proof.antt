@@ -1,3 +1,6 @@
+-- `Sums::with` meets its contract. Assumes nothing.
+use mathlib.Core.Path.{_≡_, sym, ap}
+use Rattle.roundtrip.specs.BlockReader.{addSector}
 use borrow.Author.Needs.{needs}
 use Rattle.roundtrip.proofs.Sums.with.Statement.{statement}
 use Rattle.roundtrip.proofs.Sums.with.Tie as tie
@@ -22,7 +25,7 @@ enum-told c = search needs
 
 -- src/lib.rt:38:5
 returns : tie.Need-returns
-returns c = ?
+returns c = sym (ap (addSector (c .before .before .before .before .before .args .self)) (c .before .before .before .r .given .1))
 
 -- src/lib.rt:38:5
 returns-2 : tie.Need-returns-2

@@ -1,0 +1,37 @@
+// The console keeps one record for as long as the writer runs: thin calls over the record, which is lent by `&mut`. Each hands the record to the writer and
+// stores the one that comes back.
+ghost use mathlib.Core.Path.{_≡_};
+ghost use lib.ListN.{length};
+ghost use Rattle.writer.specs.Records.{start};
+ghost use Rattle.writer.specs.Answers.{number, sectorRefusal, sectorNext, sectorOut, closingRefusal, closingNext, closingOut};
+use writer::Answer;
+use writer::Record;
+
+// A new record, whatever the old one was.
+pub fn new_record(kept: &mut Record)
+    ensures { λ r. ⌜ now (kept .exit) ≡ start ⌝ }
+{
+    *kept = writer::new();
+}
+
+// A sector of 2,366 bytes, laid as 4,836.
+pub fn write(kept: &mut Record, bytes: &[u8], out: &mut [u8]) -> Answer
+    ensures { λ a. ⌜ (number a ≡ sectorRefusal (now (kept .entry)) (length (now (bytes .entry))) (length (now (out .entry))))
+        × ((now (kept .exit) ≡ sectorNext (now (kept .entry)) (now (bytes .entry)) (length (now (out .entry))))
+        × (now (out .exit) ≡ sectorOut (now (kept .entry)) (now (bytes .entry)) (now (out .entry)))) ⌝ }
+{
+    let s = writer::write_sector(*kept, bytes, out);
+    *kept = s.next;
+    s.answer
+}
+
+// The closing code, 4 bytes.
+pub fn close(kept: &mut Record, out: &mut [u8]) -> Answer
+    ensures { λ a. ⌜ (number a ≡ closingRefusal (now (kept .entry)) (length (now (out .entry))))
+        × ((now (kept .exit) ≡ closingNext (now (kept .entry)) (length (now (out .entry))))
+        × (now (out .exit) ≡ closingOut (now (kept .entry)) (now (out .entry)))) ⌝ }
+{
+    let s = writer::close(*kept, out);
+    *kept = s.next;
+    s.answer
+}

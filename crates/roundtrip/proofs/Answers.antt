@@ -1,0 +1,64 @@
+-- The whole-block reader's answers, case by case.
+-- Assumes nothing.
+use mathlib.Core.Path.{_≡_, refl, sym, ap, ap₂, _∙_}
+use mathlib.Core.Bool.{Bool, true, false, cond, _&&_, and-false}
+use mathlib.Core.List.{List}
+use mathlib.Core.Logic.{_≢_}
+use Prim.Native.Nat.{ℕ}
+use borrow.Author.Tests.{eq-eqb, ne-eqb}
+use lib.Dec.{eqb}
+use lib.ListN.{length}
+use Rattle.channel.specs.Block.{readBlock}
+use Rattle.reader.specs.Sector.{unknownTally, syncTally}
+use Rattle.repairer.specs.Answer.{repairAnswer, blockAfter, mainAfter}
+use Rattle.repairer.specs.declared.Repaired.{Repaired}
+use Rattle.roundtrip.specs.BlockReader.{sectorSum, withSums, blockFits, blockReadAnswer, blockReadBlock, blockReadMain}
+use Rattle.roundtrip.specs.declared.BlockRead.{BlockRead}
+use Rattle.roundtrip.specs.declared.BlockRead.the-variants.{LengthRefused}
+
+-- what a call with the answer r leaves in the two buffers
+pub record Left (xs block main : List ℕ) (r : BlockRead) (b m : List ℕ) : Type 0 where
+  pub answer : r ≡ blockReadAnswer xs (length block) (length main)
+  pub block-is : b ≡ blockReadBlock xs block (length main)
+  pub main-is : m ≡ blockReadMain xs (length block) main
+
+module _ (xs block main : List ℕ) where
+  refused : blockFits xs (length block) (length main) ≡ false → Left xs block main LengthRefused block main
+  unfolding blockReadAnswer blockReadBlock blockReadMain
+  refused f = record {
+    answer = sym (ap (λ (t : Bool). cond t (withSums (repairAnswer (readBlock xs) (length main)) (sectorSum unknownTally xs 0 16) (sectorSum syncTally xs 0 16)) LengthRefused) f);
+    block-is = sym (ap (λ (t : Bool). cond t (blockAfter (readBlock xs) (length main)) block) f);
+    main-is = sym (ap (λ (t : Bool). cond t (mainAfter (readBlock xs) main) main) f);
+  }
+
+  pub stream-length : length xs ≢ 77380 → Left xs block main LengthRefused block main
+  unfolding blockFits
+  stream-length h = refused (ap (λ (t : Bool). t && (eqb (length block) 37856 && eqb (length main) 32768)) (ne-eqb (length xs) 77380 h))
+
+  pub block-length : length block ≢ 37856 → Left xs block main LengthRefused block main
+  unfolding blockFits
+  block-length h =
+      refused (ap (λ (t : Bool). eqb (length xs) 77380 && (t && eqb (length main) 32768)) (ne-eqb (length block) 37856 h) ∙ and-false (eqb (length xs) 77380))
+
+  pub main-length : length main ≢ 32768 → Left xs block main LengthRefused block main
+  unfolding blockFits
+  main-length h =
+      refused
+      (ap (λ (t : Bool). eqb (length xs) 77380 && (eqb (length block) 37856 && t)) (ne-eqb (length main) 32768 h)
+      ∙ ap (λ (t : Bool). eqb (length xs) 77380 && t) (and-false (eqb (length block) 37856)) ∙ and-false (eqb (length xs) 77380))
+
+  -- what the sixteen sector readings and the repairer give
+  pub taken : length xs ≡ 77380 → length block ≡ 37856 → length main ≡ 32768
+      → (read after final : List ℕ) (u s : ℕ) (r : Repaired) (a : BlockRead) → read ≡ readBlock xs → u ≡ sectorSum unknownTally xs 0 16 → s ≡ sectorSum syncTally xs 0 16
+      → r ≡ repairAnswer read (length main) → after ≡ blockAfter read (length main) → final ≡ mainAfter read main → a ≡ withSums r u s
+      → Left xs block main a after final
+  unfolding blockReadAnswer blockReadBlock blockReadMain blockFits
+  taken hx hb hm read after final u s r a e eu es er ea ef w =
+      let f : (eqb (length xs) 77380 && (eqb (length block) 37856 && eqb (length main) 32768)) ≡ true =
+      ap₂ _&&_ (eq-eqb (length xs) 77380 hx) (ap₂ _&&_ (eq-eqb (length block) 37856 hb) (eq-eqb (length main) 32768 hm)) in
+      record {
+        answer = w ∙ ap₂ (withSums r) eu es ∙ ap (λ (x : Repaired). withSums x (sectorSum unknownTally xs 0 16) (sectorSum syncTally xs 0 16)) (er ∙ ap (λ (x : List ℕ). repairAnswer x (length main)) e)
+            ∙ sym (ap (λ (t : Bool). cond t (withSums (repairAnswer (readBlock xs) (length main)) (sectorSum unknownTally xs 0 16) (sectorSum syncTally xs 0 16)) LengthRefused) f);
+        block-is = ea ∙ ap (λ (x : List ℕ). blockAfter x (length main)) e ∙ sym (ap (λ (t : Bool). cond t (blockAfter (readBlock xs) (length main)) block) f);
+        main-is = ef ∙ ap (λ (x : List ℕ). mainAfter x main) e ∙ sym (ap (λ (t : Bool). cond t (mainAfter (readBlock xs) main) main) f);
+      }

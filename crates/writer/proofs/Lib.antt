@@ -1,0 +1,10 @@
+pub mod Buffers
+pub mod Words
+pub mod Choices
+pub mod End
+pub mod Filling
+pub mod Sectors
+pub mod Signed
+pub mod Sound
+pub mod Told
+pub mod Calls

@@ -1,0 +1,19 @@
+use mathlib.Core.Path.{refl}
+use borrow.Author.Tests.{lt-ltb, le-ltb}
+use Rattle.writer.proofs.frame.plan.Statement.{statement}
+use Rattle.writer.proofs.frame.plan.Tie as tie
+
+-- src/frame.rt:80:9
+returns : tie.Need-returns
+returns c = rw (lt-ltb _ _ (c .if1 .taken)) refl
+
+-- src/frame.rt:87:9
+returns-2 : tie.Need-returns-2
+returns-2 c = rw (le-ltb _ _ (c .before .if1 .left), c .if2 .taken) refl
+
+-- src/frame.rt:76:1
+returns-3 : tie.Need-returns-3
+returns-3 c = rw (le-ltb _ _ (c .before .if1 .left), c .if2 .left) refl
+
+pub plan-spec : {M : Type 1} → statement M
+plan-spec = tie.close (tie.spec returns returns-2 returns-3)

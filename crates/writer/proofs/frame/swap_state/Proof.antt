@@ -1,0 +1,15 @@
+use mathlib.Core.Path.{refl}
+use borrow.Author.Tests.{eq-eqb, ne-eqb}
+use Rattle.writer.proofs.frame.swap_state.Statement.{statement}
+use Rattle.writer.proofs.frame.swap_state.Tie as tie
+
+-- src/frame.rt:55:9
+returns : tie.Need-returns
+returns c = rw (eq-eqb _ _ (c .if1 .taken)) refl
+
+-- src/frame.rt:51:1
+returns-2 : tie.Need-returns-2
+returns-2 c = rw (ne-eqb _ _ (c .if1 .left)) refl
+
+pub swap-state-spec : {M : Type 1} → statement M
+swap-state-spec = tie.close (tie.spec returns returns-2)

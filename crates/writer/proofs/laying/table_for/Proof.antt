@@ -1,0 +1,19 @@
+use mathlib.Core.Path.{refl}
+use borrow.Author.Tests.{not-true, not-false, lt-ltb, le-ltb}
+use Rattle.writer.proofs.laying.table_for.Statement.{statement}
+use Rattle.writer.proofs.laying.table_for.Tie as tie
+
+-- src/laying.rt:27:9
+returns : tie.Need-returns
+returns c = rw (not-true (c .before .args .c) (c .if1 .taken)) refl
+
+-- src/laying.rt:23:1
+returns-2 : tie.Need-returns-2
+returns-2 c = rw (not-false (c .before .before .args .c) (c .before .if1 .left), lt-ltb _ _ (c .if2 .taken)) refl
+
+-- src/laying.rt:23:1
+returns-3 : tie.Need-returns-3
+returns-3 c = rw (not-false (c .before .before .args .c) (c .before .if1 .left), le-ltb _ _ (c .if2 .left)) refl
+
+pub table-for-spec : {M : Type 1} → statement M
+table-for-spec = tie.close (tie.spec returns returns-2 returns-3)

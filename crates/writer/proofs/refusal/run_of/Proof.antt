@@ -1,0 +1,22 @@
+use mathlib.Core.Path.{ap, _∙_}
+use mir.Syntax.{w64}
+use mir.ValLaws.{toZ-ofZ}
+use Rattle.writer.specs.Records.{offset}
+use Prim.Native.Nat.{ℕ}
+use borrow.Author.Needs.{needs}
+use Rattle.writer.proofs.refusal.run_of.Statement.{statement}
+use Rattle.writer.proofs.refusal.run_of.Tie as tie
+
+-- src/refusal.rt:43:9
+offset-of-requires : tie.Need-offset-of-requires
+offset-of-requires c κs = search needs
+
+-- src/refusal.rt:39:1
+returns : tie.Need-returns
+returns c =
+    let w = c .before .before .args .w in
+    ap (λ (d : ℕ). record { state = w .state; level = w .level; dsv = d })
+    (c .offset-of .ensures ∙ ap offset (toZ-ofZ w64 (w .dsv) (record { sfits = c .before .struct-told .given .1 .1 .0 .1 })))
+
+pub run-of-spec : {M : Type 1} → statement M
+run-of-spec = tie.close (tie.spec offset-of-requires returns)

@@ -1,0 +1,27 @@
+use mathlib.Core.Path.{sym, _∙_}
+use native.Mathlib.Omega.{arith}
+use lib.Seq.{take-all}
+use borrow.Author.Needs.{needs}
+use Rattle.writer.proofs.sector.closing.Statement.{statement}
+use Rattle.writer.proofs.sector.closing.Tie as tie
+
+-- src/sector.rt:95:13
+sync-table-requires : tie.Need-sync-table-requires
+sync-table-requires c κs = search needs
+
+-- src/sector.rt:96:9
+lay-sync-requires : tie.Need-lay-sync-requires
+lay-sync-requires c κs = search needs
+
+-- src/sector.rt:91:1
+same-length : tie.Need-same-length
+same-length c = search needs
+
+-- src/sector.rt:91:1
+returns : tie.Need-returns
+returns c =
+    let p = c .before .before .before .lay-sync .ensures in
+    record { run = p .run; bytes = sym (take-all 4 _ (omega (arith, c .before .before .before .before .before .before .before .before .pre .1))) ∙ p .bytes }
+
+pub closing-spec : {M : Type 1} → statement M
+closing-spec = tie.close (tie.spec sync-table-requires lay-sync-requires same-length returns)

@@ -1,0 +1,12 @@
+use mathlib.Core.Path.{refl}
+use Rattle.channel.specs.Block.{frameCodes}
+use Rattle.writer.proofs.sector.codes.Statement.{statement}
+use Rattle.writer.proofs.sector.codes.Tie as tie
+
+-- src/sector.rt:32:1
+returns : tie.Need-returns
+unfolding frameCodes
+returns c = refl
+
+pub codes-spec : {M : Type 1} → statement M
+codes-spec = tie.close (tie.spec returns)

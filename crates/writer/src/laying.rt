@@ -1,0 +1,75 @@
+// One of the two streams: a SYNC Code or a Code Word laid in its buffer.
+ghost use mathlib.Core.Path.{_≡_};
+ghost use Prim.Native.Nat.{_+_, _/_, _%_, _<_, _≤_};
+ghost use lib.ListN.{length, set};
+ghost use Rattle.annexg.specs.Read.{State, tableOf};
+ghost use Rattle.annexg.specs.Sync.{syncTable};
+ghost use Rattle.channel.specs.Channel.{sync};
+ghost use Rattle.channel.specs.Level.{Room};
+ghost use Rattle.streams.specs.Streams.{fresh, lay};
+ghost use Rattle.writer.specs.Inner.{tableFor, columnFor, Part, Next, Worded};
+use super::Side;
+use channel::Run;
+
+// The two bytes of a half word.
+pub(crate) fn put(s: &mut [u8], at: usize, w: u16)
+    requires { ⌜ at + 1 < length (now s) ⌝ }
+    ensures { λ r. ⌜ now (s .exit) ≡ set (set (now (s .entry)) at (w / 256)) (at + 1) (w % 256) ⌝ }
+{
+    s[at] = (w / 256) as u8;
+    s[at + 1] = (w % 256) as u8;
+}
+
+fn table_for(b: u8, c: bool) -> usize
+    ensures { λ r. ⌜ r ≡ tableFor b c ⌝ }
+{
+    if !c {
+        return 0;
+    }
+    if b < 88 { 1 } else { 0 }
+}
+
+fn column_for(s: u8, b: u8, c: bool) -> u8
+    requires { ⌜ State s ⌝ }
+    ensures { λ r. ⌜ r ≡ columnFor s b c ⌝ }
+{
+    if !c {
+        return s - 1;
+    }
+    if 88 <= b { 4 - s } else { s - 1 }
+}
+
+// The Code Word that a choice takes for a byte, at the end of a stream.
+pub(crate) fn lay_word(
+    m: &[u32; 1024],
+    u: &[u32; 352],
+    d: Side,
+    b: u8,
+    c: bool,
+    at: usize,
+    s: &mut [u8],
+) -> Side
+    requires { ⌜ (now m ≡ tableOf 0) × ((now u ≡ tableOf 1) × Next d at (now s)) ⌝ }
+    ensures { λ q. ⌜ Worded d b c at (now (s .entry)) (now (s .exit)) q ⌝ }
+{
+    let run = d.run;
+    let t = table_for(b, c);
+    let k = column_for(run.state, b, c);
+    let w = annexg::word_at(m, u, t, b, k);
+    let next = annexg::next_at(m, u, t, b, k);
+    put(&mut *s, at, w);
+    let run = run.word(w, next);
+    Side { run, tail: w }
+}
+
+// A SYNC Code at the front of a buffer.
+pub(crate) fn lay_sync(y: &[u16; 32], r: Run, n: u8, c: bool, s: &mut [u8]) -> Side
+    requires { ⌜ (now y ≡ syncTable) × (Room r 32 × (4 ≤ length (now s))) ⌝ }
+    ensures { λ q. ⌜ Part q (now (s .exit)) 4 (lay (fresh r) (sync n) c) ⌝ }
+{
+    let h = annexg::sync_code(y, r.state, n, c);
+    put(&mut *s, 0, h);
+    put(&mut *s, 2, 0x0011);
+    let run = r.sync(h);
+    Side { run, tail: 0x0011 }
+}
