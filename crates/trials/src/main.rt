@@ -10,6 +10,7 @@ use libc::STDOUT_FILENO;
 use reedsolomon::Row;
 use writer::Answer;
 use writer::Record;
+use writer::Step;
 
 fn main() {
     trial13();
@@ -30,7 +31,9 @@ fn print(text: &[u8]) {
     io::write_all(STDOUT_FILENO, text);
 }
 
-fn print_number(n: u64) {
+// A text and then a number.
+fn say(text: &[u8], n: u64) {
+    print(text);
     io::print_decimal(STDOUT_FILENO, n);
 }
 
@@ -139,22 +142,19 @@ fn row_case(fd: i32) {
         outcome: Outcome::Clean,
     });
     let mended = q.bytes;
+    say(b"trial 13: ", compare::differing(&sent, &bytes));
     let outcome = q.outcome;
-    print(b"trial 13: ");
-    print_number(compare::differing(&sent, &bytes));
-    print(b" bytes wrong, ");
     print_outcome(outcome);
-    print(b", then ");
-    print_number(compare::differing(&sent, &mended));
+    say(b", then ", compare::differing(&sent, &mended));
     print(b" bytes wrong, ");
     print_verdict(&mended, &due);
 }
 
 fn print_outcome(o: Outcome) {
     match o {
-        Outcome::Clean => print(b"a code row"),
-        Outcome::Corrected => print(b"changed"),
-        Outcome::Uncorrectable => print(b"past help"),
+        Outcome::Clean => print(b" bytes wrong, a code row"),
+        Outcome::Corrected => print(b" bytes wrong, changed"),
+        Outcome::Uncorrectable => print(b" bytes wrong, past help"),
     }
 }
 
@@ -174,8 +174,7 @@ fn block_case(main_path: &[u8], block_path: &[u8], first: u32, info: u8) {
     load(block_path, &mut due);
     let e = eccblock::encode_block(&main, first, info, &mut out);
     print(main_path);
-    print(b": answer ");
-    print_number(eccblock::encode_number(e) as u64);
+    say(b": answer ", eccblock::encode_number(e) as u64);
     print(b", ");
     print_verdict(&out, &due);
 }
@@ -192,10 +191,8 @@ fn number_case(first: u32) {
     let mut out = block_buffer();
     let before = out;
     let e = eccblock::encode_block(&main, first, 0, &mut out);
-    print(b"trial 15: first number ");
-    print_number(first as u64);
-    print(b", answer ");
-    print_number(eccblock::encode_number(e) as u64);
+    say(b"trial 15: first number ", first as u64);
+    say(b", answer ", eccblock::encode_number(e) as u64);
     print_buffer(&out, &before);
 }
 
@@ -216,7 +213,7 @@ fn information_case(info: u8) {
     let before = out;
     let e = eccblock::encode_block(&main, 0, info, &mut out);
     let n = eccblock::encode_number(e);
-    print_number(n as u64);
+    say(b"", n as u64);
     if n != 0 {
         if !check::same(&out, &before) {
             print(b"!");
@@ -242,36 +239,25 @@ fn length_case(n: usize, m: usize, first: u32, info: u8) {
     let main = longer_main();
     let mut out = longer_block();
     let before = out;
-    length_run(&main, n, first, info, &mut out, m, &before);
+    let answer = made(&main, n, first, info, &mut out, m);
+    say(b"lengths ", n as u64);
+    say(b" ", m as u64);
+    say(b", first number ", first as u64);
+    say(b", Sector Information ", info as u64);
+    say(b", answer ", answer as u64);
+    print_buffer(&out, &before);
 }
 
-fn length_run(
-    main: &[u8],
-    n: usize,
-    first: u32,
-    info: u8,
-    out: &mut [u8],
-    m: usize,
-    before: &[u8],
-) {
+// The answer to the first n bytes of main data and the first m of a buffer; 255 where there are fewer.
+fn made(main: &[u8], n: usize, first: u32, info: u8, out: &mut [u8], m: usize) -> u8 {
     if main.len() < n {
-        return;
+        return 255;
     }
     if out.len() < m {
-        return;
+        return 255;
     }
     let e = eccblock::encode_block(&main[..n], first, info, &mut out[..m]);
-    print(b"lengths ");
-    print_number(n as u64);
-    print(b" ");
-    print_number(m as u64);
-    print(b", first number ");
-    print_number(first as u64);
-    print(b", Sector Information ");
-    print_number(info as u64);
-    print(b", answer ");
-    print_number(eccblock::encode_number(e) as u64);
-    print_buffer(out, before);
+    eccblock::encode_number(e)
 }
 
 // ---- streams of code bits: their zero runs, and their bytes read back
@@ -295,11 +281,11 @@ fn block_stream(stream_path: &[u8], block_path: &[u8]) {
 
 fn print_reading(stream: &[u8], bytes: &[u8], after: u16) {
     if channel::runs_ok(stream) {
-        print(b": runs hold, ");
+        print(b": runs hold");
     } else {
-        print(b": RUNS DO NOT HOLD, ");
+        print(b": RUNS DO NOT HOLD");
     }
-    print_number(compare::read_back(stream, bytes, after));
+    say(b", ", compare::read_back(stream, bytes, after));
     print(b" bytes read back\n");
 }
 
@@ -328,10 +314,13 @@ fn record(state: u8, level: u8, dsv: i64, sectors: u32, closed: bool) -> Record 
 fn print_record(w: Record) {
     print(b" dsv ");
     signed::print_signed(w.dsv);
-    print(b" state ");
-    print_number(w.state as u64);
-    print(b" level ");
-    print_number(w.level as u64);
+    say(b" state ", w.state as u64);
+    say(b" level ", w.level as u64);
+}
+
+fn print_sectors(w: Record) {
+    print_record(w);
+    say(b" sectors ", w.sectors as u64);
 }
 
 fn written_blocks() {
@@ -378,14 +367,19 @@ fn next_sector(w: Record, k: usize, block: &[u8], out: &mut [u8]) -> Record {
     let end = at + 4836;
     let s = writer::write_sector(w, &block[from..till], &mut out[at..end]);
     let next = s.next;
-    print(b"sector ");
-    if k < 9 {
-        print(b" ");
-    }
-    print_number((k + 1) as u64);
-    print_record(next);
-    print(b"\n");
+    print_sector(k, next);
     next
+}
+
+// A line of a `.records` file.
+fn print_sector(k: usize, w: Record) {
+    if k < 9 {
+        say(b"sector  ", (k + 1) as u64);
+    } else {
+        say(b"sector ", (k % 16 + 1) as u64);
+    }
+    print_record(w);
+    print(b"\n");
 }
 
 fn close(w: Record, out: &mut [u8]) {
@@ -406,13 +400,16 @@ fn far_out() {
     sector_case(b"st3.sector", b"st3.stream", record(4, 0, -8, 3, false));
 }
 
-// DSV 63 and -64 leave the SYNC Code; 64 and -65 try the other.
+// DSV 63 and -64 leave the SYNC Code; 64 and -65 try the other, and so do those far out, where equal absolute values leave it.
 fn trial14() {
-    sector_case(
-        b"trial14/t171_equal_2.sector",
-        b"trial14/t171_equal_2.stream",
-        record(1, 0, 3, 11, false),
-    );
+    trial14_63();
+    trial14_minus64();
+    trial14_64();
+    trial14_minus65();
+    trial14_equal();
+}
+
+fn trial14_63() {
     sector_case(
         b"trial14/t63_smaller_1.sector",
         b"trial14/t63_smaller_1.stream",
@@ -428,31 +425,9 @@ fn trial14() {
         b"trial14/t63_smaller_3.stream",
         record(1, 1, 35, 15, false),
     );
-    sector_case(
-        b"trial14/t64_smaller_1.sector",
-        b"trial14/t64_smaller_1.stream",
-        record(2, 1, 60, 13, false),
-    );
-    sector_case(
-        b"trial14/t64_smaller_2.sector",
-        b"trial14/t64_smaller_2.stream",
-        record(1, 1, 54, 3, false),
-    );
-    sector_case(
-        b"trial14/t64_smaller_3.sector",
-        b"trial14/t64_smaller_3.stream",
-        record(2, 1, 44, 4, false),
-    );
-    sector_case(
-        b"trial14/tm189_equal_1.sector",
-        b"trial14/tm189_equal_1.stream",
-        record(2, 0, 3, 8, false),
-    );
-    sector_case(
-        b"trial14/tm353_equal_3.sector",
-        b"trial14/tm353_equal_3.stream",
-        record(3, 1, 3, 6, false),
-    );
+}
+
+fn trial14_minus64() {
     sector_case(
         b"trial14/tm64_smaller_1.sector",
         b"trial14/tm64_smaller_1.stream",
@@ -468,6 +443,27 @@ fn trial14() {
         b"trial14/tm64_smaller_3.stream",
         record(1, 0, -54, 13, false),
     );
+}
+
+fn trial14_64() {
+    sector_case(
+        b"trial14/t64_smaller_1.sector",
+        b"trial14/t64_smaller_1.stream",
+        record(2, 1, 60, 13, false),
+    );
+    sector_case(
+        b"trial14/t64_smaller_2.sector",
+        b"trial14/t64_smaller_2.stream",
+        record(1, 1, 54, 3, false),
+    );
+    sector_case(
+        b"trial14/t64_smaller_3.sector",
+        b"trial14/t64_smaller_3.stream",
+        record(2, 1, 44, 4, false),
+    );
+}
+
+fn trial14_minus65() {
     sector_case(
         b"trial14/tm65_smaller_1.sector",
         b"trial14/tm65_smaller_1.stream",
@@ -485,6 +481,24 @@ fn trial14() {
     );
 }
 
+fn trial14_equal() {
+    sector_case(
+        b"trial14/t171_equal_2.sector",
+        b"trial14/t171_equal_2.stream",
+        record(1, 0, 3, 11, false),
+    );
+    sector_case(
+        b"trial14/tm189_equal_1.sector",
+        b"trial14/tm189_equal_1.stream",
+        record(2, 0, 3, 8, false),
+    );
+    sector_case(
+        b"trial14/tm353_equal_3.sector",
+        b"trial14/tm353_equal_3.stream",
+        record(3, 1, 3, 6, false),
+    );
+}
+
 fn sector_case(sector_path: &[u8], stream_path: &[u8], w: Record) {
     let mut bytes = [0u8; 2366];
     let mut due = [0u8; 4836];
@@ -495,11 +509,8 @@ fn sector_case(sector_path: &[u8], stream_path: &[u8], w: Record) {
     let next = s.next;
     let answer = s.answer;
     print(sector_path);
-    print(b": answer ");
-    print_number(answer_number(answer));
-    print_record(next);
-    print(b" sectors ");
-    print_number(next.sectors as u64);
+    say(b": answer ", answer_number(answer));
+    print_sectors(next);
     print(b", ");
     print_verdict(&out, &due);
     print(stream_path);
@@ -538,24 +549,21 @@ fn record_case(w: Record) {
     let bytes = [0u8; 2366];
     let mut out = [165u8; 4836];
     let mut four = [165u8; 4];
-    let written = writer::write_sector(w, &bytes, &mut out);
-    let closed = writer::close(w, &mut four);
-    let short = writer::write_sector(w, &bytes, &mut four);
-    let sector_answer = written.answer;
-    let closing_answer = closed.answer;
-    let short_answer = short.answer;
     print(b"record");
-    print_record(w);
-    print(b" sectors ");
-    print_number(w.sectors as u64);
+    print_sectors(w);
     if w.closed {
         print(b" closed");
     }
-    print(b": sector ");
-    print_number(answer_number(sector_answer));
-    print(b", closing ");
-    print_number(answer_number(closing_answer));
-    print(b", another length ");
-    print_number(answer_number(short_answer));
+    let written = writer::write_sector(w, &bytes, &mut out);
+    say_answer(b": sector ", written);
+    let closed = writer::close(w, &mut four);
+    say_answer(b", closing ", closed);
+    let short = writer::write_sector(w, &bytes, &mut four);
+    say_answer(b", another length ", short);
     print(b"\n");
+}
+
+fn say_answer(text: &[u8], s: Step) {
+    let answer = s.answer;
+    say(text, answer_number(answer));
 }
