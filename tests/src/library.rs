@@ -1,6 +1,7 @@
 //! The proved library, through the C boundary of crate `ffi`: a `&[u8]` passes as a pointer and a length. The numbers are those of
 //! crates/ffi/specs/Answers.antt.
 use crate::rs::Fate;
+use crate::writing::Record;
 
 extern "C" {
     fn chamanzil_product(a: u8, b: u8) -> u8;
@@ -20,6 +21,26 @@ extern "C" {
         main_len: usize,
         first: u32,
         info: u8,
+        out: *mut u8,
+        out_len: usize,
+    ) -> u32;
+    fn chamanzil_write_sector(
+        state: *mut u8,
+        level: *mut u8,
+        dsv: *mut i64,
+        sectors: *mut u32,
+        closed: *mut bool,
+        bytes: *const u8,
+        bytes_len: usize,
+        out: *mut u8,
+        out_len: usize,
+    ) -> u32;
+    fn chamanzil_close(
+        state: *mut u8,
+        level: *mut u8,
+        dsv: *mut i64,
+        sectors: *mut u32,
+        closed: *mut bool,
         out: *mut u8,
         out_len: usize,
     ) -> u32;
@@ -76,4 +97,36 @@ pub fn read_word(word: u16, following: u16) -> Option<u8> {
 
 pub fn runs_hold(stream: &[u8]) -> bool {
     unsafe { chamanzil_runs_hold(stream.as_ptr(), stream.len()) == 1 }
+}
+
+pub fn write_sector(record: &mut Record, bytes: &[u8], out: &mut [u8]) -> u32 {
+    let r = record;
+    unsafe {
+        chamanzil_write_sector(
+            &mut r.state,
+            &mut r.level,
+            &mut r.dsv,
+            &mut r.sectors,
+            &mut r.closed,
+            bytes.as_ptr(),
+            bytes.len(),
+            out.as_mut_ptr(),
+            out.len(),
+        )
+    }
+}
+
+pub fn close(record: &mut Record, out: &mut [u8]) -> u32 {
+    let r = record;
+    unsafe {
+        chamanzil_close(
+            &mut r.state,
+            &mut r.level,
+            &mut r.dsv,
+            &mut r.sectors,
+            &mut r.closed,
+            out.as_mut_ptr(),
+            out.len(),
+        )
+    }
 }

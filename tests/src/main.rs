@@ -11,6 +11,7 @@ mod rs;
 mod tables;
 mod trial_data;
 mod vectors_test;
+mod writer_test;
 mod writing;
 
 use random::Random;
@@ -31,6 +32,10 @@ fn round(report: &mut Report, seed: u64) {
     blocks_test::maker_refusals(report, &mut random);
     blocks_test::words(report, &mut random, &reader);
     blocks_test::streams(report, &mut random, &tables, 20);
+    writer_test::blocks(report, &mut random, &tables, 200);
+    writer_test::sectors(report, &mut random, &tables, 2_000);
+    writer_test::edges(report, &mut random, &tables);
+    writer_test::refusals(report, &mut random, 20_000);
 }
 
 /// `--trial-data FOLDER` writes cases for crate `trials`. `--long [SEED]` runs until stopped or until something differs, with a new seed each round.

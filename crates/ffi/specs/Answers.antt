@@ -9,8 +9,10 @@ use lib.ListN.{length}
 use Rattle.codes.specs.declared.Outcome.{Outcome}
 use Rattle.codes.specs.declared.Outcome.the-variants.{Clean, Corrected, Uncorrectable}
 use Rattle.codes.specs.Nearest.{nearest, outcomeOf}
+use lib.IntN.{ℤ}
 use Rattle.annexg.specs.declared.Reading.{Reading}
 use Rattle.annexg.specs.declared.Reading.the-variants.{Byte, Unknown}
+use Rattle.writer.specs.declared.Record.{Record}
 
 -- a buffer has n bytes
 abbrev pub sized : ℕ → List ℕ → Bool
@@ -42,3 +44,7 @@ repairBytes n p t w = heldAfter (sized n w) (nearest p t w) w
 abbrev pub readingNumber : Reading → ℕ
 readingNumber (Byte b) = b
 readingNumber Unknown = 256
+
+-- the writer's record from its five numbers, as they are lent
+abbrev pub recordOf : ℕ → ℕ → ℤ → ℕ → Bool → Record
+recordOf state level dsv sectors closed = record { state = state; level = level; dsv = dsv; sectors = sectors; closed = closed }

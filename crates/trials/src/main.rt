@@ -2,6 +2,8 @@
 // this folder holds what is due. The cases are in `data/`.
 mod compare;
 
+ghost use mathlib.Core.Path.{_≡_};
+ghost use lib.ListN.{length};
 use codes::Outcome;
 use libc::STDOUT_FILENO;
 use reedsolomon::Row;
@@ -72,6 +74,38 @@ fn print_buffer(after: &[u8], before: &[u8]) {
     }
 }
 
+// ---- buffers. What they hold at first matters only where a refusal is to leave it. The contracts give the length, which lending an array asks for
+
+fn main_buffer() -> [u8; 32768]
+    ensures { λ r. ⌜ 32768 ≡ length r ⌝ }
+{
+    [0; 32768]
+}
+
+fn longer_main() -> [u8; 32769]
+    ensures { λ r. ⌜ 32769 ≡ length r ⌝ }
+{
+    [0; 32769]
+}
+
+fn block_buffer() -> [u8; 37856]
+    ensures { λ r. ⌜ 37856 ≡ length r ⌝ }
+{
+    [165; 37856]
+}
+
+fn longer_block() -> [u8; 37857]
+    ensures { λ r. ⌜ 37857 ≡ length r ⌝ }
+{
+    [165; 37857]
+}
+
+fn stream_buffer() -> [u8; 77380]
+    ensures { λ r. ⌜ 77380 ≡ length r ⌝ }
+{
+    [0; 77380]
+}
+
 // ---- trial 13: five wrong bytes in a row, repaired; six, only as the rule says
 
 // Each case is three rows: the code row, the row as read, the row due.
@@ -126,9 +160,9 @@ fn blocks() {
 }
 
 fn block_case(main_path: &[u8], block_path: &[u8], first: u32, info: u8) {
-    let mut main = [0u8; 32768];
-    let mut due = [0u8; 37856];
-    let mut out = [0u8; 37856];
+    let mut main = main_buffer();
+    let mut due = block_buffer();
+    let mut out = block_buffer();
     load(main_path, &mut main);
     load(block_path, &mut due);
     let e = eccblock::encode_block(&main, first, info, &mut out);
@@ -147,8 +181,8 @@ fn trial15() {
 }
 
 fn number_case(first: u32) {
-    let main = [0u8; 32768];
-    let mut out = [165u8; 37856];
+    let main = main_buffer();
+    let mut out = block_buffer();
     let before = out;
     let e = eccblock::encode_block(&main, first, 0, &mut out);
     print(b"trial 15: first number ");
@@ -170,8 +204,8 @@ fn informations() {
 }
 
 fn information_case(info: u8) {
-    let main = [0u8; 32768];
-    let mut out = [165u8; 37856];
+    let main = main_buffer();
+    let mut out = block_buffer();
     let before = out;
     let e = eccblock::encode_block(&main, 0, info, &mut out);
     let n = eccblock::encode_number(e);
@@ -185,8 +219,8 @@ fn information_case(info: u8) {
 
 // Buffers of other lengths, with whatever else is wrong: the lowest number.
 fn lengths() {
-    let main = [0u8; 32769];
-    let mut out = [165u8; 37857];
+    let main = longer_main();
+    let mut out = longer_block();
     let before = out;
     length_case(&main, 32767, 0, 0, &mut out, 37856, &before);
     length_case(&main, 32769, 0, 0, &mut out, 37856, &before);
@@ -240,8 +274,8 @@ fn streams() {
 }
 
 fn block_stream(stream_path: &[u8], block_path: &[u8]) {
-    let mut stream = [0u8; 77380];
-    let mut bytes = [0u8; 37856];
+    let mut stream = stream_buffer();
+    let mut bytes = block_buffer();
     load(stream_path, &mut stream);
     load(block_path, &mut bytes);
     print(stream_path);
