@@ -1,7 +1,6 @@
 // The bench sheet (document 01): a block's stream on standard input, one line on standard output.
 ghost use mathlib.Core.Path.{_≡_};
 ghost use lib.ListN.{length};
-
 use libc::STDIN_FILENO;
 use libc::STDOUT_FILENO;
 use repairer::Tallies;

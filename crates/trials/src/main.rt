@@ -1,12 +1,15 @@
 // The unstarred trials of document 01's table, and what a second formatter made (tests/), run through the library. It prints a line a case; `stdout` beside
 // this folder holds what is due. The cases are in `data/`.
 mod compare;
+mod signed;
 
 ghost use mathlib.Core.Path.{_≡_};
 ghost use lib.ListN.{length};
 use codes::Outcome;
 use libc::STDOUT_FILENO;
 use reedsolomon::Row;
+use writer::Answer;
+use writer::Record;
 
 fn main() {
     trial13();
@@ -15,6 +18,10 @@ fn main() {
     informations();
     lengths();
     streams();
+    written_blocks();
+    far_out();
+    trial14();
+    refused_records();
 }
 
 // ---- files and lines
@@ -219,22 +226,26 @@ fn information_case(info: u8) {
 
 // Buffers of other lengths, with whatever else is wrong: the lowest number.
 fn lengths() {
+    length_case(32767, 37856, 0, 0);
+    length_case(32769, 37856, 0, 0);
+    length_case(0, 37856, 0, 0);
+    length_case(32768, 37855, 0, 0);
+    length_case(32768, 37857, 0, 0);
+    length_case(32768, 0, 0, 0);
+    length_case(32767, 37856, 8, 0xFF);
+    length_case(32768, 37856, 8, 0xFF);
+    length_case(32768, 37856, 16, 0xFF);
+    length_case(32768, 37856, 16, 0x2D);
+}
+
+fn length_case(n: usize, m: usize, first: u32, info: u8) {
     let main = longer_main();
     let mut out = longer_block();
     let before = out;
-    length_case(&main, 32767, 0, 0, &mut out, 37856, &before);
-    length_case(&main, 32769, 0, 0, &mut out, 37856, &before);
-    length_case(&main, 0, 0, 0, &mut out, 37856, &before);
-    length_case(&main, 32768, 0, 0, &mut out, 37855, &before);
-    length_case(&main, 32768, 0, 0, &mut out, 37857, &before);
-    length_case(&main, 32768, 0, 0, &mut out, 0, &before);
-    length_case(&main, 32767, 8, 0xFF, &mut out, 37856, &before);
-    length_case(&main, 32768, 8, 0xFF, &mut out, 37856, &before);
-    length_case(&main, 32768, 16, 0xFF, &mut out, 37856, &before);
-    length_case(&main, 32768, 16, 0x2D, &mut out, 37856, &before);
+    length_run(&main, n, first, info, &mut out, m, &before);
 }
 
-fn length_case(
+fn length_run(
     main: &[u8],
     n: usize,
     first: u32,
@@ -290,4 +301,261 @@ fn print_reading(stream: &[u8], bytes: &[u8], after: u16) {
     }
     print_number(compare::read_back(stream, bytes, after));
     print(b" bytes read back\n");
+}
+
+// ---- the writer
+
+fn answer_number(a: Answer) -> u64 {
+    match a {
+        Answer::Done => 0,
+        Answer::WrongLength => 1,
+        Answer::RunEnded => 7,
+        Answer::RunUnfinished => 8,
+        Answer::BadRecord => 9,
+    }
+}
+
+fn record(state: u8, level: u8, dsv: i64, sectors: u32, closed: bool) -> Record {
+    Record {
+        state,
+        level,
+        dsv,
+        sectors,
+        closed,
+    }
+}
+
+fn print_record(w: Record) {
+    print(b" dsv ");
+    signed::print_signed(w.dsv);
+    print(b" state ");
+    print_number(w.state as u64);
+    print(b" level ");
+    print_number(w.level as u64);
+}
+
+fn written_blocks() {
+    written_block(b"b1.block", b"b1.stream");
+    written_block(b"b2.block", b"b2.stream");
+    written_block(b"z.block", b"z.stream");
+}
+
+// Sixteen sectors and the closing code, with the record after each.
+fn written_block(block_path: &[u8], stream_path: &[u8]) {
+    let mut block = block_buffer();
+    let mut due = stream_buffer();
+    let mut out = stream_buffer();
+    load(block_path, &mut block);
+    load(stream_path, &mut due);
+    print(stream_path);
+    print(b" written:\n");
+    write_stream(&block, &mut out);
+    print_verdict(&out, &due);
+}
+
+fn write_stream(block: &[u8], out: &mut [u8]) {
+    let mut w = writer::new();
+    for k in 0..16usize {
+        w = next_sector(w, k, block, out);
+    }
+    close(w, out);
+}
+
+// Sector k of a block.
+fn next_sector(w: Record, k: usize, block: &[u8], out: &mut [u8]) -> Record {
+    if 15 < k {
+        return w;
+    }
+    if block.len() != 37856 {
+        return w;
+    }
+    if out.len() != 77380 {
+        return w;
+    }
+    let from = 2366 * k;
+    let till = from + 2366;
+    let at = 4836 * k;
+    let end = at + 4836;
+    let s = writer::write_sector(w, &block[from..till], &mut out[at..end]);
+    let next = s.next;
+    print(b"sector ");
+    if k < 9 {
+        print(b" ");
+    }
+    print_number((k + 1) as u64);
+    print_record(next);
+    print(b"\n");
+    next
+}
+
+fn close(w: Record, out: &mut [u8]) {
+    if out.len() != 77380 {
+        return;
+    }
+    let s = writer::close(w, &mut out[77376..77380]);
+    print(b"closed   ");
+    print_record(s.next);
+    print(b"\n");
+}
+
+// Sectors that drive the DSV far out.
+fn far_out() {
+    sector_case(b"st0.sector", b"st0.stream", record(1, 0, -56, 3, false));
+    sector_case(b"st1.sector", b"st1.stream", record(2, 0, -40, 3, false));
+    sector_case(b"st2.sector", b"st2.stream", record(3, 0, -24, 3, false));
+    sector_case(b"st3.sector", b"st3.stream", record(4, 0, -8, 3, false));
+}
+
+// DSV 63 and -64 leave the SYNC Code; 64 and -65 try the other.
+fn trial14() {
+    sector_case(
+        b"trial14/t171_equal_2.sector",
+        b"trial14/t171_equal_2.stream",
+        record(1, 0, 3, 11, false),
+    );
+    sector_case(
+        b"trial14/t63_smaller_1.sector",
+        b"trial14/t63_smaller_1.stream",
+        record(2, 1, 47, 14, false),
+    );
+    sector_case(
+        b"trial14/t63_smaller_2.sector",
+        b"trial14/t63_smaller_2.stream",
+        record(3, 0, 39, 1, false),
+    );
+    sector_case(
+        b"trial14/t63_smaller_3.sector",
+        b"trial14/t63_smaller_3.stream",
+        record(1, 1, 35, 15, false),
+    );
+    sector_case(
+        b"trial14/t64_smaller_1.sector",
+        b"trial14/t64_smaller_1.stream",
+        record(2, 1, 60, 13, false),
+    );
+    sector_case(
+        b"trial14/t64_smaller_2.sector",
+        b"trial14/t64_smaller_2.stream",
+        record(1, 1, 54, 3, false),
+    );
+    sector_case(
+        b"trial14/t64_smaller_3.sector",
+        b"trial14/t64_smaller_3.stream",
+        record(2, 1, 44, 4, false),
+    );
+    sector_case(
+        b"trial14/tm189_equal_1.sector",
+        b"trial14/tm189_equal_1.stream",
+        record(2, 0, 3, 8, false),
+    );
+    sector_case(
+        b"trial14/tm353_equal_3.sector",
+        b"trial14/tm353_equal_3.stream",
+        record(3, 1, 3, 6, false),
+    );
+    sector_case(
+        b"trial14/tm64_smaller_1.sector",
+        b"trial14/tm64_smaller_1.stream",
+        record(4, 1, -42, 11, false),
+    );
+    sector_case(
+        b"trial14/tm64_smaller_2.sector",
+        b"trial14/tm64_smaller_2.stream",
+        record(1, 1, -60, 3, false),
+    );
+    sector_case(
+        b"trial14/tm64_smaller_3.sector",
+        b"trial14/tm64_smaller_3.stream",
+        record(1, 0, -54, 13, false),
+    );
+    sector_case(
+        b"trial14/tm65_smaller_1.sector",
+        b"trial14/tm65_smaller_1.stream",
+        record(4, 0, -63, 10, false),
+    );
+    sector_case(
+        b"trial14/tm65_smaller_2.sector",
+        b"trial14/tm65_smaller_2.stream",
+        record(1, 1, -67, 7, false),
+    );
+    sector_case(
+        b"trial14/tm65_smaller_3.sector",
+        b"trial14/tm65_smaller_3.stream",
+        record(3, 1, -47, 4, false),
+    );
+}
+
+fn sector_case(sector_path: &[u8], stream_path: &[u8], w: Record) {
+    let mut bytes = [0u8; 2366];
+    let mut due = [0u8; 4836];
+    let mut out = [0u8; 4836];
+    load(sector_path, &mut bytes);
+    load(stream_path, &mut due);
+    let s = writer::write_sector(w, &bytes, &mut out);
+    let next = s.next;
+    let answer = s.answer;
+    print(sector_path);
+    print(b": answer ");
+    print_number(answer_number(answer));
+    print_record(next);
+    print(b" sectors ");
+    print_number(next.sectors as u64);
+    print(b", ");
+    print_verdict(&out, &due);
+    print(stream_path);
+    sector_reading(&out, &bytes, next.state);
+}
+
+// The half word after a sector is of the class that the State prescribes.
+fn sector_reading(stream: &[u8; 4836], bytes: &[u8; 2366], state: u8) {
+    if 2 < state {
+        print_reading(stream, bytes, 0x8000);
+    } else {
+        print_reading(stream, bytes, 0);
+    }
+}
+
+// The answers to a sector and to closing, from records in and out of range.
+fn refused_records() {
+    record_case(record(0, 0, 0, 3, false));
+    record_case(record(5, 0, 0, 3, false));
+    record_case(record(1, 2, 0, 3, false));
+    record_case(record(1, 0, 0, 17, false));
+    record_case(record(1, 0, 0, 3, true));
+    record_case(record(1, 0, 1, 0, false));
+    record_case(record(1, 0, 38688, 1, false));
+    record_case(record(1, 0, -38688, 1, false));
+    record_case(record(1, 0, 38689, 1, false));
+    record_case(record(1, 0, -38689, 1, false));
+    record_case(record(4, 1, 619008, 16, false));
+    record_case(record(4, 1, 619009, 16, false));
+    record_case(record(4, 1, -619040, 16, true));
+    record_case(record(4, 1, -619041, 16, true));
+    record_case(record(1, 0, 0, 15, false));
+}
+
+fn record_case(w: Record) {
+    let bytes = [0u8; 2366];
+    let mut out = [165u8; 4836];
+    let mut four = [165u8; 4];
+    let written = writer::write_sector(w, &bytes, &mut out);
+    let closed = writer::close(w, &mut four);
+    let short = writer::write_sector(w, &bytes, &mut four);
+    let sector_answer = written.answer;
+    let closing_answer = closed.answer;
+    let short_answer = short.answer;
+    print(b"record");
+    print_record(w);
+    print(b" sectors ");
+    print_number(w.sectors as u64);
+    if w.closed {
+        print(b" closed");
+    }
+    print(b": sector ");
+    print_number(answer_number(sector_answer));
+    print(b", closing ");
+    print_number(answer_number(closing_answer));
+    print(b", another length ");
+    print_number(answer_number(short_answer));
+    print(b"\n");
 }

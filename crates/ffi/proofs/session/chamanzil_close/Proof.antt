@@ -27,10 +27,13 @@ returns c =
     let next = c .before .before .before .before .before .close .result .next in
     let entry : toZ w64 (ofZ w64 (a .dsv .now)) ≡ a .dsv .now = toZ-ofZ w64 (a .dsv .now) (record { sfits = c .before .before .before .before .before .before .before .before .before .before .d .given }) in
     let exit : toZ w64 (ofZ w64 (next .dsv)) ≡ next .dsv = toZ-ofZ w64 (next .dsv) (record { sfits = c .before .struct-told .given .1 .1 .0 .1 }) in
-    let from : (ℤ → _) = λ (d : ℤ). recordOf (a .state .now) (a .level .now) d (a .sectors .now) (a .closed .now) in
-    (c .answer-number .ensures ∙ done .0 ∙ ap (λ (d : ℤ). closingRefusal (from d) (length (a .out .now))) entry,
-    (ap (λ (d : ℤ). recordOf (next .state) (next .level) d (next .sectors) (next .closed)) exit ∙ done .1 .0 ∙ ap (λ (d : ℤ). closingNext (from d) (length (a .out .now))) entry,
-    done .1 .1 ∙ ap (λ (d : ℤ). closingOut (from d) (a .out .now)) entry))
+    let from : (ℤ → _) = λ (d : ℤ). recordOf (a .state .now) (a .level .now) d (a .sectors .now) (a .closed .now) in (
+      c .answer-number .ensures ∙ done .0 ∙ ap (λ (d : ℤ). closingRefusal (from d) (length (a .out .now))) entry,
+      (
+        ap (λ (d : ℤ). recordOf (next .state) (next .level) d (next .sectors) (next .closed)) exit ∙ done .1 .0 ∙ ap (λ (d : ℤ). closingNext (from d) (length (a .out .now))) entry,
+        done .1 .1 ∙ ap (λ (d : ℤ). closingOut (from d) (a .out .now)) entry,
+      ),
+    )
 
 pub chamanzil-close-spec : {M : Type 1} → statement M
 chamanzil-close-spec =

@@ -1,10 +1,10 @@
--- `length_case` meets its contract. Assumes nothing.
+-- `length_run` meets its contract. Assumes nothing.
 use mathlib.Core.Path.{sym}
 use native.Mathlib.Omega.{arith}
 use lib.Seq.{length-take-le}
 use borrow.Author.Needs.{needs}
-use Rattle.trials.proofs.length_case.Statement.{statement}
-use Rattle.trials.proofs.length_case.Tie as tie
+use Rattle.trials.proofs.length_run.Statement.{statement}
+use Rattle.trials.proofs.length_run.Tie as tie
 
 returns : tie.Need-returns
 returns c = search needs
@@ -85,8 +85,8 @@ same-length c = search needs
 returns-3 : tie.Need-returns-3
 returns-3 c = search needs
 
-pub length-case-spec : {M : Type 1} → statement M
-length-case-spec =
+pub length-run-spec : {M : Type 1} → statement M
+length-run-spec =
     tie.close
     (tie.spec
     returns
