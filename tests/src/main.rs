@@ -5,6 +5,7 @@ mod codes_test;
 mod gf;
 mod library;
 mod random;
+mod readers_test;
 mod reading;
 mod report;
 mod rs;
@@ -31,6 +32,7 @@ fn round(report: &mut Report, seed: u64) {
     blocks_test::maker_refusals(report, &mut random);
     blocks_test::words(report, &mut random, &reader);
     blocks_test::streams(report, &mut random, &tables, 20);
+    readers_test::all(report, &mut random, &tables, &reader);
 }
 
 /// `--trial-data FOLDER` writes cases for crate `trials`. `--long [SEED]` runs until stopped or until something differs, with a new seed each round.
