@@ -5,6 +5,7 @@ mod codes_test;
 mod gf;
 mod library;
 mod random;
+mod readers_test;
 mod reading;
 mod report;
 mod rs;
