@@ -323,32 +323,41 @@ fn spoiled_frame(random: &mut Random, main: &[u8], info: u8, number: u32, kind: 
     }
 }
 
-/// Refusals 4, 5 and 6 at every frame from 1 on, of the repairer on a clean and on a damaged block and of the whole-block reader. A second bad frame may come after.
+/// A block whose first bad frame is k, bad as `kind` says, and its refusal. A second bad frame may come after.
+fn bad_block(random: &mut Random, k: usize, kind: usize) -> (Vec<u8>, u32) {
+    let main = random.bytes(MAIN);
+    let (first, info) = accepted(random);
+    let part = |k: usize| &main[2048 * k..2048 * k + 2048];
+    let mut frames: Vec<Vec<u8>> = (0..16).map(|k| frame(part(k), info, first + k as u32)).collect();
+    let (changed, number) = spoiled_frame(random, part(k), info, first + k as u32, kind);
+    frames[k] = changed;
+    if k < 15 && random.coin() {
+        let later = k + 1 + random.below(15 - k);
+        frames[later][4] ^= 1;
+    }
+    (block_of_frames(&frames), number)
+}
+
+/// Refusals 4, 5 and 6 at every frame from 1 on: of the repairer on a block of code words, and of the whole-block reader on a damaged stream of it.
 pub fn frame_refusals(report: &mut Report, random: &mut Random, t: &Tables, reader: &Reader) {
     report.begin("readers: refusals 4, 5 and 6");
-    for k in 1..16 {
-        for kind in 0..7 {
-            let main = random.bytes(MAIN);
-            let (first, info) = accepted(random);
-            let part = |k: usize| &main[2048 * k..2048 * k + 2048];
-            let mut frames: Vec<Vec<u8>> = (0..16).map(|k| frame(part(k), info, first + k as u32)).collect();
-            let (changed, number) = spoiled_frame(random, part(k), info, first + k as u32, kind);
-            frames[k] = changed;
-            if k < 15 && random.coin() {
-                let later = k + 1 + random.below(15 - k);
-                frames[later][4] ^= 1;
-            }
-            let made = block_of_frames(&frames);
-            let refused = Answer::Refused { number, frame: k };
-            let (ours, theirs) = compare_repairer(report, random, &made);
-            report.check(theirs == refused && ours.number == number && ours.report == [0, 0, 0, 0, 0, k as u32], || format!("frame {k} kind {kind}: {}", ours.told()));
-            report.check(ours.block == made, || format!("frame {k} kind {kind}: the block buffer"));
-            let right = permitted_stream(t, &made, random).unwrap();
-            let stream = damage(random, &right, 8);
-            let (ours, theirs) = compare(report, random, reader, &stream);
-            report.check(theirs == refused && ours.number == number && ours.report == [0, 0, 0, 0, 0, 0, 0, k as u32], || format!("frame {k} kind {kind}, damaged: {}", ours.told()));
-            report.check(data_rows(&ours.block) == data_rows(&made), || format!("frame {k} kind {kind}, damaged: the block buffer"));
-        }
+    for (k, kind) in (1..16).flat_map(|k| (0..7).map(move |kind| (k, kind))) {
+        let (made, number) = bad_block(random, k, kind);
+        let refused = Answer::Refused { number, frame: k };
+        let is_due = |ours: &Left| {
+            let (frame, before) = ours.report.split_last().unwrap();
+            ours.number == number && *frame == k as u32 && before.iter().all(|&n| n == 0)
+        };
+        let (ours, theirs) = compare_repairer(report, random, &made);
+        let is_same = ours.block == made;
+        report.check(theirs == refused && is_due(&ours) && is_same, || format!("frame {k} kind {kind}: {}", ours.told()));
+        let right = permitted_stream(t, &made, random).unwrap();
+        let stream = damage(random, &right, 8);
+        let (ours, theirs) = compare(report, random, reader, &stream);
+        let is_same = data_columns(&ours.block) == data_columns(&made);
+        report.check(theirs == refused && is_due(&ours) && is_same, || {
+            format!("frame {k} kind {kind}, damaged: {}", ours.told())
+        });
     }
     report.end();
 }
@@ -373,7 +382,7 @@ pub fn refusals_at_zero(report: &mut Report, random: &mut Random, t: &Tables, re
 }
 
 /// Columns 0 to 171, which both repairs reach.
-fn data_rows(block: &[u8]) -> Vec<u8> {
+fn data_columns(block: &[u8]) -> Vec<u8> {
     block.chunks(182).flat_map(|r| r[..172].to_vec()).collect()
 }
 
