@@ -130,3 +130,47 @@ pub fn close(record: &mut Record, out: &mut [u8]) -> u32 {
         )
     }
 }
+
+extern "C" {
+    fn chamanzil_read_sector(
+        stream: *const u8,
+        stream_len: usize,
+        out: *mut u8,
+        out_len: usize,
+        report: *mut u32,
+        report_len: usize,
+    ) -> u32;
+    fn chamanzil_repair_block(
+        block: *mut u8,
+        block_len: usize,
+        main: *mut u8,
+        main_len: usize,
+        report: *mut u32,
+        report_len: usize,
+    ) -> u32;
+    fn chamanzil_read_block(
+        stream: *const u8,
+        stream_len: usize,
+        block: *mut u8,
+        block_len: usize,
+        main: *mut u8,
+        main_len: usize,
+        report: *mut u32,
+        report_len: usize,
+    ) -> u32;
+}
+
+pub fn read_sector(stream: &[u8], out: &mut [u8], report: &mut [u32]) -> u32 {
+    let (to, size) = (out.as_mut_ptr(), out.len());
+    unsafe { chamanzil_read_sector(stream.as_ptr(), stream.len(), to, size, report.as_mut_ptr(), report.len()) }
+}
+
+pub fn repair_block(block: &mut [u8], main: &mut [u8], report: &mut [u32]) -> u32 {
+    let (b, m) = (block.as_mut_ptr(), main.as_mut_ptr());
+    unsafe { chamanzil_repair_block(b, block.len(), m, main.len(), report.as_mut_ptr(), report.len()) }
+}
+
+pub fn read_block(stream: &[u8], block: &mut [u8], main: &mut [u8], report: &mut [u32]) -> u32 {
+    let (s, b, m, r) = (stream.as_ptr(), block.as_mut_ptr(), main.as_mut_ptr(), report.as_mut_ptr());
+    unsafe { chamanzil_read_block(s, stream.len(), b, block.len(), m, main.len(), r, report.len()) }
+}

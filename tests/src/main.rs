@@ -5,6 +5,7 @@ mod codes_test;
 mod gf;
 mod library;
 mod random;
+mod readers_test;
 mod reading;
 mod report;
 mod rs;
@@ -36,6 +37,7 @@ fn round(report: &mut Report, seed: u64) {
     writer_test::sectors(report, &mut random, &tables, 2_000);
     writer_test::edges(report, &mut random, &tables);
     writer_test::refusals(report, &mut random, 20_000);
+    readers_test::all(report, &mut random, &tables, &reader);
 }
 
 /// `--trial-data FOLDER` writes cases for crate `trials`. `--long [SEED]` runs until stopped or until something differs, with a new seed each round.

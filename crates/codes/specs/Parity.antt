@@ -1,4 +1,4 @@
--- The parity bytes of a word: the remainder of the word times x^p by the generator (x + α^0) .. (x + α^(p-1)). ECMA-268, 16.1.2 (IED, p = 2), clause 18
+-- The parity bytes of a word: the remainder of the word times x^p by the generator (x + α^0) .. (x + α^(p-1)). ECMA-268, 16.2 (IED, p = 2) and clause 18
 -- (outer parity, p = 16; inner parity, p = 10).
 -- Assumes nothing.
 use mathlib.Core.List.{List, [], _∷_, _++_, map}

@@ -2,6 +2,7 @@
 // a buffer of another length than stated gets refusal 1 (document 01) and everything is left as it was.
 mod blocks;
 mod codewords;
+mod readers;
 mod session;
 mod words;
 
@@ -13,6 +14,9 @@ pub use codewords::chamanzil_ied;
 pub use codewords::chamanzil_power;
 pub use codewords::chamanzil_product;
 pub use codewords::chamanzil_row_parity;
+pub use readers::chamanzil_read_block;
+pub use readers::chamanzil_read_sector;
+pub use readers::chamanzil_repair_block;
 pub use session::chamanzil_close;
 pub use session::chamanzil_write_sector;
 pub use words::chamanzil_read_word;

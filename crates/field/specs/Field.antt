@@ -1,4 +1,4 @@
--- The field of 256 elements over x^8 + x^4 + x^3 + x^2 + 1 (ECMA-268, 17.4 and 18; document 01, 'The block'). An element is a byte: bit i is the coefficient of
+-- The field of 256 elements over x^8 + x^4 + x^3 + x^2 + 1 (ECMA-268, 16.2 and clause 18; document 01, 'The block'). An element is a byte: bit i is the coefficient of
 -- x^i, and α is the element x, the byte 2.
 -- Assumes nothing.
 use mathlib.Core.Bool.{Bool, true, false}

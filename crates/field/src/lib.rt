@@ -1,4 +1,4 @@
-// GF(256): product, power and inverse (ECMA-268, 17.4; document 01, 'The block'). The table of logarithms is lent, so that no call makes it anew.
+// GF(256): product, power and inverse (ECMA-268, 16.2 and clause 18; document 01, 'The block'). The table of logarithms is lent, so that no call makes it anew.
 ghost use mathlib.Core.Path.{_≡_};
 ghost use Rattle.field.specs.Field.{mul, pow, inverse};
 ghost use Rattle.field.specs.Tables.{LogTable};

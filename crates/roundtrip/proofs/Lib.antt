@@ -4,3 +4,4 @@ pub mod Demand
 pub mod Undamaged
 pub mod SectorLoop
 pub mod Answers
+pub mod Trials

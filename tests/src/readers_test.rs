@@ -1,0 +1,504 @@
+//! The sector reader, the block repairer and the whole-block reader of the library against the second implementation.
+use crate::block::{block, frame, recorded, BLOCK, FRAME, MAIN};
+use crate::blocks_test::accepted;
+use crate::library;
+use crate::random::Random;
+use crate::reading::{repair_block, Answer, Reader, Tallies};
+use crate::report::Report;
+use crate::rs::Code;
+use crate::tables::Tables;
+use crate::writing::{permitted_stream, LAID, SECTOR};
+
+const STREAM: usize = 77_380;
+const ROWS: usize = 208;
+
+/// What a call of one of the block functions answered and left.
+#[derive(PartialEq, Eq, Clone)]
+struct Left {
+    number: u32,
+    block: Vec<u8>,
+    main: Vec<u8>,
+    report: Vec<u32>,
+}
+
+impl Left {
+    fn told(&self) -> String {
+        format!("{} {:?}", self.number, self.report)
+    }
+}
+
+/// Buffers full of random bytes, as a call finds them.
+fn buffers(random: &mut Random, sizes: [usize; 3]) -> Left {
+    Left {
+        number: 0,
+        block: random.bytes(sizes[0]),
+        main: random.bytes(sizes[1]),
+        report: (0..sizes[2]).map(|_| random.next() as u32).collect(),
+    }
+}
+
+fn called(stream: &[u8], was: &Left) -> Left {
+    let mut left = was.clone();
+    left.number = library::read_block(stream, &mut left.block, &mut left.main, &mut left.report);
+    left
+}
+
+fn called_repairer(was: &Left) -> Left {
+    let mut left = was.clone();
+    left.number = library::repair_block(&mut left.block, &mut left.main, &mut left.report);
+    left
+}
+
+/// The numbers of an answer in the order of the report: with or without the two tallies of the sectors.
+fn numbers(first: u32, t: &Tallies, frame: usize, with_sectors: bool) -> Vec<u32> {
+    let mut all = vec![first, t.rows[0], t.rows[1], t.columns[0], t.columns[1]];
+    if with_sectors {
+        all.extend([t.unknown, t.spoiled]);
+    }
+    all.push(frame as u32);
+    all
+}
+
+/// What has to be left, by the answer of the second implementation and its block buffer.
+fn due(answer: &Answer, repaired: Vec<u8>, was: &Left, with_sectors: bool) -> Left {
+    let mut left = was.clone();
+    match answer {
+        Answer::HandedOut { main, first, tallies } => {
+            left.main = main.clone();
+            left.report = numbers(*first, tallies, 0, with_sectors);
+            left.block = repaired;
+        }
+        Answer::Refused { number, frame } => {
+            left.number = *number;
+            left.report = numbers(0, &Tallies::default(), *frame, with_sectors);
+            left.block = repaired;
+        }
+        Answer::WrongLength => left.number = 1,
+    }
+    left
+}
+
+/// The whole-block reader's call and the second implementation's answer, compared. Whatever they are, they have to be the same.
+fn compare(report: &mut Report, random: &mut Random, reader: &Reader, stream: &[u8]) -> (Left, Answer) {
+    let was = buffers(random, [BLOCK, MAIN, 8]);
+    let ours = called(stream, &was);
+    let mut buffer = Vec::new();
+    let answer = reader.block(stream, &mut buffer);
+    let theirs = due(&answer, buffer, &was, true);
+    report.check(ours == theirs, || {
+        let buffers = (ours.block == theirs.block, ours.main == theirs.main);
+        format!("{} for {}, buffers {buffers:?}", ours.told(), theirs.told())
+    });
+    (ours, answer)
+}
+
+/// The repairer's call on a block, against the second implementation.
+fn compare_repairer(report: &mut Report, random: &mut Random, given: &[u8]) -> (Left, Answer) {
+    let mut was = buffers(random, [0, MAIN, 6]);
+    was.block = given.to_vec();
+    let ours = called_repairer(&was);
+    let mut buffer = given.to_vec();
+    let answer = repair_block(&mut buffer);
+    let theirs = due(&answer, buffer, &was, false);
+    report.check(ours == theirs, || {
+        let buffers = (ours.block == theirs.block, ours.main == theirs.main);
+        format!("{} for {}, buffers {buffers:?}", ours.told(), theirs.told())
+    });
+    (ours, answer)
+}
+
+// ---- damage
+
+/// A stream beside the permitted one that it was, and the rows that may have more than 5 touched bytes.
+struct Damaged<'a> {
+    right: &'a [u8],
+    stream: Vec<u8>,
+    is_heavy: [bool; ROWS],
+}
+
+fn half_at(stream: &[u8], half: usize) -> u16 {
+    u16::from_be_bytes([stream[2 * half], stream[2 * half + 1]])
+}
+
+/// The half word of the stream that stands for byte i of the block.
+fn half_of(i: usize) -> usize {
+    i / 91 * 93 + 2 + i % 91
+}
+
+/// The row of the byte that a half word stands for, unless that is a SYNC Code's.
+fn row_of(half: usize) -> Option<usize> {
+    if half % 93 < 2 || half / 93 >= 2 * ROWS {
+        return None;
+    }
+    Some(half / 93 / 2)
+}
+
+impl Damaged<'_> {
+    fn changed(&self, half: usize) -> u16 {
+        half_at(self.right, half) ^ half_at(&self.stream, half)
+    }
+
+    /// A bit of the byte's own word, or bit 15 or 3 of the half word after it.
+    fn touched(&self, i: usize) -> bool {
+        self.changed(half_of(i)) != 0 || self.changed(half_of(i) + 1) & 0x8008 != 0
+    }
+
+    fn touched_in(&self, row: usize) -> usize {
+        (182 * row..182 * row + 182).filter(|&i| self.touched(i)).count()
+    }
+
+    fn flip(&mut self, half: usize, pattern: u16) {
+        self.stream[2 * half] ^= (pattern >> 8) as u8;
+        self.stream[2 * half + 1] ^= pattern as u8;
+    }
+
+    /// Changes a half word, unless a row that is not to be heavy would be.
+    fn change(&mut self, random: &mut Random, half: usize) {
+        let pattern = match random.below(3) {
+            0 => 1 << random.below(16),
+            1 => 1 + random.below(65_535) as u16,
+            _ => (1 + random.below(65_535) as u16) & !0x8008,
+        };
+        self.flip(half, pattern);
+        let rows = [row_of(half), half.checked_sub(1).and_then(row_of)];
+        let is_past = rows.into_iter().flatten().any(|r| !self.is_heavy[r] && self.touched_in(r) > 5);
+        if is_past {
+            self.flip(half, pattern);
+        }
+    }
+
+    fn change_row(&mut self, random: &mut Random, row: usize, count: usize) {
+        for _ in 0..count {
+            let i = 182 * row + random.below(182);
+            self.change(random, half_of(i));
+        }
+    }
+}
+
+/// A stream with exactly `heavy` rows of more than 5 touched bytes, scattered or in a run, and with spoiled SYNC Codes.
+fn damage(random: &mut Random, right: &[u8], heavy: usize) -> Vec<u8> {
+    let mut d = Damaged {
+        right,
+        stream: right.to_vec(),
+        is_heavy: [false; ROWS],
+    };
+    if random.below(3) == 0 {
+        let from = random.below(ROWS + 1 - heavy);
+        d.is_heavy[from..from + heavy].fill(true);
+    } else {
+        random.places(ROWS, heavy).into_iter().for_each(|r| d.is_heavy[r] = true);
+    }
+    // all heavy rows just so, each as it comes, or all of them lost
+    let kind = random.below(3);
+    for row in 0..ROWS {
+        if d.is_heavy[row] {
+            let count = [6, 6 + random.below(400), 800][kind];
+            d.change_row(random, row, count);
+            while d.touched_in(row) <= 5 {
+                d.change_row(random, row, 1);
+            }
+        } else {
+            let count = [0, 1, 3, 5, 30][random.below(5)];
+            d.change_row(random, row, count);
+        }
+    }
+    for _ in 0..random.below(100) {
+        let half = 93 * random.below(417) + random.below(2);
+        d.change(random, half);
+    }
+    // changes may have undone one another
+    for row in 0..ROWS {
+        while d.is_heavy[row] && d.touched_in(row) <= 5 {
+            d.change_row(random, row, 1);
+        }
+    }
+    let all = (0..ROWS).filter(|&r| d.touched_in(r) > 5).count();
+    assert_eq!(all, heavy);
+    d.stream
+}
+
+fn random_stream(random: &mut Random, t: &Tables) -> (Vec<u8>, u32, Vec<u8>) {
+    let main = random.bytes(MAIN);
+    let (first, info) = accepted(random);
+    let stream = permitted_stream(t, &block(&main, first, info), random).unwrap();
+    (main, first, stream)
+}
+
+/// Demand 3, by trial: at most 8 heavy rows, and the main data come back.
+pub fn mended(report: &mut Report, random: &mut Random, t: &Tables, reader: &Reader, count: usize) {
+    report.begin("readers: damage with at most 8 heavy rows");
+    for i in 0..count {
+        let (main, first, right) = random_stream(random, t);
+        let heavy = if i % 2 == 0 { 8 } else { random.below(9) };
+        let stream = damage(random, &right, heavy);
+        let (ours, _) = compare(report, random, reader, &stream);
+        report.check(ours.number == 0 && ours.main == main && ours.report[0] == first, || ours.told());
+    }
+    report.end();
+}
+
+pub fn nine_heavy(report: &mut Report, random: &mut Random, t: &Tables, reader: &Reader, count: usize) {
+    report.begin("readers: damage with 9 heavy rows");
+    let mut refused = 0;
+    for _ in 0..count {
+        let (_, _, right) = random_stream(random, t);
+        let stream = damage(random, &right, 9);
+        let (ours, _) = compare(report, random, reader, &stream);
+        refused += usize::from(ours.number != 0);
+    }
+    report.check(refused > 0 && refused < count, || format!("{refused} of {count} refused"));
+    report.end();
+}
+
+pub fn undamaged(report: &mut Report, random: &mut Random, t: &Tables, reader: &Reader, count: usize) {
+    report.begin("readers: undamaged streams");
+    for _ in 0..count {
+        let (main, first, stream) = random_stream(random, t);
+        let (ours, _) = compare(report, random, reader, &stream);
+        let clean = ours.report == [first, 0, 0, 0, 0, 0, 0, 0];
+        report.check(ours.number == 0 && ours.main == main && clean, || ours.told());
+    }
+    report.end();
+}
+
+// ---- refusals
+
+/// A block whose rows and columns are code words, of any sixteen frames.
+fn block_of_frames(frames: &[Vec<u8>]) -> Vec<u8> {
+    let data = frames.concat();
+    assert_eq!(data.len(), 16 * FRAME);
+    let mut rows: Vec<Vec<u8>> = data.chunks(172).map(|r| r.to_vec()).collect();
+    rows.resize(208, vec![0; 172]);
+    let (outer, inner) = (Code::column(), Code::row());
+    for j in 0..172 {
+        let column: Vec<u8> = rows[..192].iter().map(|r| r[j]).collect();
+        for (i, p) in outer.parity(&column).into_iter().enumerate() {
+            rows[192 + i][j] = p;
+        }
+    }
+    let mut made = vec![0; BLOCK];
+    for (i, row) in rows.iter().enumerate() {
+        let at = 182 * recorded(i);
+        made[at..at + 182].copy_from_slice(&inner.encoded(row));
+    }
+    made
+}
+
+/// A changed frame k of a block, and the refusal that it must get.
+fn spoiled_frame(random: &mut Random, main: &[u8], info: u8, number: u32, kind: usize) -> (Vec<u8>, u32) {
+    let mut f = frame(main, info, number);
+    match kind {
+        // the IED
+        0 => {
+            f[4 + random.below(2)] ^= 1 + random.below(255) as u8;
+            (f, 4)
+        }
+        // the IED and all the rest: the lowest number counts
+        1 => {
+            f[5] ^= 0x10;
+            f[0] ^= 0xD2;
+            f[2063] ^= 1;
+            (f, 4)
+        }
+        // another number
+        2 => (frame(main, info, (number ^ 1 << random.below(24)) & 0xFF_FFFF), 5),
+        // another Information byte
+        3 => (frame(main, info ^ 1 << random.below(8), number), 5),
+        // the Information byte and the EDC
+        4 => {
+            let mut g = frame(main, info ^ 0x80, number);
+            g[2060] ^= 0x80;
+            (g, 5)
+        }
+        // the EDC
+        5 => {
+            f[2060 + random.below(4)] ^= 1 + random.below(255) as u8;
+            (f, 6)
+        }
+        // the main data or the six bytes before them
+        _ => {
+            f[6 + random.below(2054)] ^= 1 + random.below(255) as u8;
+            (f, 6)
+        }
+    }
+}
+
+/// A block whose first bad frame is k, bad as `kind` says, and its refusal. A second bad frame may come after.
+fn bad_block(random: &mut Random, k: usize, kind: usize) -> (Vec<u8>, u32) {
+    let main = random.bytes(MAIN);
+    let (first, info) = accepted(random);
+    let part = |k: usize| &main[2048 * k..2048 * k + 2048];
+    let mut frames: Vec<Vec<u8>> = (0..16).map(|k| frame(part(k), info, first + k as u32)).collect();
+    let (changed, number) = spoiled_frame(random, part(k), info, first + k as u32, kind);
+    frames[k] = changed;
+    if k < 15 && random.coin() {
+        let later = k + 1 + random.below(15 - k);
+        frames[later][4] ^= 1;
+    }
+    (block_of_frames(&frames), number)
+}
+
+/// Refusals 4, 5 and 6 at every frame from 1 on: of the repairer on a block of code words, and of the whole-block reader on a damaged stream of it.
+pub fn frame_refusals(report: &mut Report, random: &mut Random, t: &Tables, reader: &Reader) {
+    report.begin("readers: refusals 4, 5 and 6");
+    for (k, kind) in (1..16).flat_map(|k| (0..7).map(move |kind| (k, kind))) {
+        let (made, number) = bad_block(random, k, kind);
+        let refused = Answer::Refused { number, frame: k };
+        let is_due = |ours: &Left| {
+            let (frame, before) = ours.report.split_last().unwrap();
+            ours.number == number && *frame == k as u32 && before.iter().all(|&n| n == 0)
+        };
+        let (ours, theirs) = compare_repairer(report, random, &made);
+        let is_same = ours.block == made;
+        report.check(theirs == refused && is_due(&ours) && is_same, || format!("frame {k} kind {kind}: {}", ours.told()));
+        let right = permitted_stream(t, &made, random).unwrap();
+        let stream = damage(random, &right, 8);
+        let (ours, theirs) = compare(report, random, reader, &stream);
+        let is_same = data_columns(&ours.block) == data_columns(&made);
+        report.check(theirs == refused && is_due(&ours) && is_same, || {
+            format!("frame {k} kind {kind}, damaged: {}", ours.told())
+        });
+    }
+    report.end();
+}
+
+/// Refusal 5 at frame 0: a first number that is no multiple of 16, and a prohibited Information byte, the same in all frames.
+pub fn refusals_at_zero(report: &mut Report, random: &mut Random, t: &Tables, reader: &Reader) {
+    report.begin("readers: refusal 5 at frame 0");
+    for bit in [0x01, 0x02, 0x04, 0x08, 0x10, 0x20, 0x40, 0x80] {
+        let main = random.bytes(MAIN);
+        let (first, info) = accepted(random);
+        let is_allowed = bit & 0x2D != 0;
+        let (first, info) = if is_allowed { (first + 1 + random.below(15) as u32, info) } else { (first, info | bit) };
+        let made = block(&main, first, info);
+        let (ours, theirs) = compare_repairer(report, random, &made);
+        let refused = Answer::Refused { number: 5, frame: 0 };
+        report.check(theirs == refused && ours.number == 5 && ours.report == [0; 6] && ours.block == made, || ours.told());
+        let right = permitted_stream(t, &made, random).unwrap();
+        let (ours, theirs) = compare(report, random, reader, &right);
+        report.check(theirs == refused && ours.number == 5 && ours.report == [0; 8], || ours.told());
+    }
+    report.end();
+}
+
+/// Columns 0 to 171, which both repairs reach.
+fn data_columns(block: &[u8]) -> Vec<u8> {
+    block.chunks(182).flat_map(|r| r[..172].to_vec()).collect()
+}
+
+/// Blocks damaged as bytes, far and near, and blocks of random bytes.
+pub fn repairer(report: &mut Report, random: &mut Random, count: usize) {
+    report.begin("readers: the repairer on damaged blocks");
+    for i in 0..count {
+        let (first, info) = accepted(random);
+        let mut given = block(&random.bytes(MAIN), first, info);
+        let wrong = random.below(2_000);
+        for _ in 0..wrong {
+            given[random.below(BLOCK)] ^= random.byte();
+        }
+        if i % 10 == 0 {
+            given = random.bytes(BLOCK);
+        }
+        compare_repairer(report, random, &given);
+    }
+    report.end();
+}
+
+/// The stated sizes with one of them another.
+fn other_sizes<const N: usize>(stated: [usize; N]) -> Vec<[usize; N]> {
+    let mut all = Vec::new();
+    for k in 0..N {
+        for n in [stated[k] - 1, stated[k] + 1, 0, 2 * stated[k]] {
+            let mut sizes = stated;
+            sizes[k] = n;
+            all.push(sizes);
+        }
+    }
+    all
+}
+
+pub fn lengths(report: &mut Report, random: &mut Random, t: &Tables) {
+    report.begin("readers: other lengths");
+    let (_, _, stream) = random_stream(random, t);
+    for [n, b, m, r] in other_sizes([STREAM, BLOCK, MAIN, 8]) {
+        let given: Vec<u8> = stream.iter().cycle().take(n).copied().collect();
+        let mut was = buffers(random, [b, m, r]);
+        let ours = called(&given, &was);
+        was.number = 1;
+        report.check(ours == was, || format!("read_block {n} {b} {m} {r}: {}", ours.told()));
+    }
+    for sizes in other_sizes([BLOCK, MAIN, 6]) {
+        let mut was = buffers(random, sizes);
+        let ours = called_repairer(&was);
+        was.number = 1;
+        report.check(ours == was, || format!("repair_block {sizes:?}: {}", ours.told()));
+    }
+    for [n, m, r] in other_sizes([LAID + 2, SECTOR, 2]) {
+        let mut was = buffers(random, [m, 0, r]);
+        let mut ours = was.clone();
+        ours.number = library::read_sector(&stream[..n], &mut ours.block, &mut ours.report);
+        was.number = 1;
+        report.check(ours == was, || format!("read_sector {n} {m} {r}: {}", ours.told()));
+    }
+    report.end();
+}
+
+// ---- the sector reader
+
+fn spoil_half(random: &mut Random, stream: &mut [u8], half: usize) {
+    let pattern = 1 + random.below(65_535) as u16;
+    stream[2 * half] ^= (pattern >> 8) as u8;
+    stream[2 * half + 1] ^= pattern as u8;
+}
+
+/// Sectors with spoiled words and SYNC Codes: another code's, one of the wrong class, one bit, a random half word.
+pub fn sectors(report: &mut Report, random: &mut Random, t: &Tables, reader: &Reader, count: usize) {
+    report.begin("readers: damaged sectors");
+    let (_, _, whole) = random_stream(random, t);
+    let (mut all_unknown, mut all_spoiled) = (0, 0);
+    for _ in 0..count {
+        let s = random.below(16);
+        let mut stream = whole[LAID * s..LAID * s + LAID + 2].to_vec();
+        for _ in 0..random.below(40) {
+            let half = random.below(2_419);
+            spoil_half(random, &mut stream, half);
+        }
+        for _ in 0..random.below(12) {
+            let f = random.below(26);
+            let at = 186 * f;
+            match random.below(4) {
+                0 => spoil_half(random, &mut stream, 93 * f),
+                1 => spoil_half(random, &mut stream, 93 * f + 1),
+                2 => {
+                    let bit = random.below(32);
+                    stream[at + bit / 8] ^= 0x80 >> (bit % 8);
+                }
+                _ => {
+                    let code = t.sync[random.below(2)][random.below(8)][random.below(2)];
+                    stream[at..at + 2].copy_from_slice(&code.to_be_bytes());
+                }
+            }
+        }
+        let mut out = random.bytes(SECTOR);
+        let mut tallies = [random.next() as u32, random.next() as u32];
+        let answer = library::read_sector(&stream, &mut out, &mut tallies);
+        let theirs = reader.sector(&stream);
+        let same = tallies == [theirs.unknown, theirs.spoiled] && out == theirs.bytes;
+        report.check(answer == 0 && same, || format!("{answer} {tallies:?} for {} {}", theirs.unknown, theirs.spoiled));
+        all_unknown += theirs.unknown;
+        all_spoiled += theirs.spoiled;
+    }
+    report.check(all_unknown > 0 && all_spoiled > 0, || "no damage showed".into());
+    report.end();
+}
+
+pub fn all(report: &mut Report, random: &mut Random, t: &Tables, reader: &Reader) {
+    sectors(report, random, t, reader, 2_000);
+    undamaged(report, random, t, reader, 20);
+    mended(report, random, t, reader, 300);
+    nine_heavy(report, random, t, reader, 100);
+    frame_refusals(report, random, t, reader);
+    refusals_at_zero(report, random, t, reader);
+    repairer(report, random, 50);
+    lengths(report, random, t);
+}
