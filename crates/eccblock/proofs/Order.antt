@@ -7,8 +7,7 @@ use native.Mathlib.Omega.{arith}
 use borrow.Author.Tests.{ltb-true, ltb-false, leb-true, leb-false, eqb-true, eq-eqb, lt-ltb, le-ltb, le-leb, lt-leb}
 use lib.Dec.{eqb, leb, ltb}
 use Rattle.lists.specs.Count.{countFrom}
-use Rattle.lists.proofs.Count.{count-append, count-same}
-use Rattle.lists.proofs.More4.{count-weave}
+use Rattle.lists.proofs.Count.{count-append, count-same, count-weave}
 use Rattle.field.proofs.Inverse.{last-unique}
 use Rattle.eccblock.specs.Block.{recordingRow, originalRow}
 

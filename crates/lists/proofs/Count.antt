@@ -3,7 +3,7 @@
 use mathlib.Core.Path.{_≡_, refl, sym, ap, ap₂, _∙_}
 use mathlib.Core.Bool.{Bool, true, false, not}
 use mathlib.Core.List.{List, [], _∷_}
-use Prim.Native.Nat.{ℕ, zero, suc, _+_, _≤_, _<_, suc-le-suc}
+use Prim.Native.Nat.{ℕ, zero, suc, _+_, _*_, _≤_, _<_, suc-le-suc}
 use native.Mathlib.Omega.{arith}
 use borrow.Author.Tests.{eq-eqb}
 use Rattle.lists.specs.Count.{bit, countFrom, distance}
@@ -31,6 +31,35 @@ count-same f g k l (suc n) h =
     ap₂ (λ (x y : ℕ). x + y)
     (ap bit (ap f (omega arith) ∙ h 0 (omega arith) ∙ ap g (omega arith)))
     (count-same f g (suc k) (suc l) n (λ i j. ap f (omega arith) ∙ h (suc i) (suc-le-suc j) ∙ ap g (omega arith)))
+
+-- one number more, as a loop counts
+pub count-snoc : (f : ℕ → Bool) (i : ℕ) → countFrom f 0 (i + 1) ≡ countFrom f 0 i + bit (f i)
+count-snoc f i =
+    let e : 0 + i ≡ i = omega arith in
+    let h = rw e at (count-append f 0 i 1) in
+    omega (arith, h)
+
+-- w rows of each of m frames, and one more row of each: in frames of w + 1 rows they are all
+pub count-weave :
+    (t f g : ℕ → Bool) (w : ℕ) → ((m i : ℕ) → i < w → f (m * w + i) ≡ t (m * suc w + i)) → ((m : ℕ) → g m ≡ t (m * suc w + w))
+    → (m : ℕ) → countFrom f 0 (m * w) + countFrom g 0 m ≡ countFrom t 0 (m * suc w)
+count-weave t f g w hf hg zero =
+    let e : 0 * w ≡ 0 = omega arith in
+    let d : 0 * suc w ≡ 0 = omega arith in
+    rw (e, d)
+count-weave t f g w hf hg (suc m) =
+    let e : suc m * w ≡ m * w + w = omega arith in
+    let d : suc m * suc w ≡ m * suc w + (w + 1) = omega arith in
+    let h : suc m ≡ m + 1 = omega arith in
+    let i = count-weave t f g w hf hg m in
+    let a = ap (countFrom f 0) e ∙ count-append f 0 (m * w) w in
+    let b = ap (countFrom g 0) h ∙ count-append g 0 m 1 in
+    let c = ap (countFrom t 0) d ∙ count-append t 0 (m * suc w) (w + 1) ∙ ap (λ (x : ℕ). countFrom t 0 (m * suc w) + x) (count-append t (0 + m * suc w) w 1) in
+    let p : countFrom f (0 + m * w) w ≡ countFrom t (0 + m * suc w) w =
+    count-same f t (0 + m * w) (0 + m * suc w) w (λ j l. ap f (omega arith) ∙ hf m j l ∙ ap t (omega arith)) in
+    let q : countFrom g (0 + m) 1 ≡ countFrom t (0 + m * suc w + w) 1 =
+    count-same g t (0 + m) (0 + m * suc w + w) 1 (λ j l. ap g (omega arith) ∙ hg m ∙ ap t (omega arith)) in
+    omega arith
 
 pub count-le : (f : ℕ → Bool) (k n : ℕ) → countFrom f k n ≤ n
 count-le f k zero = omega arith

@@ -2,5 +2,3 @@ pub mod Test
 pub mod Fill
 pub mod Count
 pub mod Bytes
-pub mod More4
-pub mod More7

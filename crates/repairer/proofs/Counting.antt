@@ -1,26 +1,16 @@
 -- Tallies, one word at a time.
 -- Assumes nothing.
 use mathlib.Core.Path.{_≡_, refl, sym, ap, ap₂, _∙_}
-use mathlib.Core.Bool.{Bool}
 use mathlib.Core.List.{List}
 use Prim.Native.Nat.{ℕ, _+_, _<_, _≤_}
 use native.Mathlib.Omega.{arith}
-use Rattle.lists.specs.Count.{bit, countFrom}
-use Rattle.lists.proofs.Count.{count-append, count-le}
+use Rattle.lists.proofs.Count.{count-snoc, count-le}
 use Rattle.codes.specs.Nearest.{outcomeOf}
 use Rattle.codes.specs.declared.Outcome.{Outcome}
 use Rattle.codes.specs.declared.Outcome.the-variants.{Clean, Corrected, Uncorrectable}
 use Rattle.repairer.specs.Repair.{isCorrected, isUncorrectable, tallyOf}
 use Rattle.repairer.specs.Steps.{counted}
 use Rattle.repairer.specs.declared.Tally.{Tally}
-
--- one number more
-pub count-snoc : (f : ℕ → Bool) (n : ℕ) → countFrom f 0 n + bit (f n) ≡ countFrom f 0 (n + 1)
-count-snoc f n =
-    let z : 0 + n ≡ n = omega arith in
-    let a = count-append f 0 n 1 in
-    let b : bit (f (0 + n)) ≡ bit (f n) = ap (λ (x : ℕ). bit (f x)) z in
-    omega (arith, a, b)
 
 abbrev both : ℕ → ℕ → Tally
 both x y = record { corrected = x; uncorrectable = y }
@@ -64,8 +54,8 @@ module _ (p t : ℕ) (w : ℕ → List ℕ) where
   step : (n : ℕ) → counted (tallyOf p t w n) (outcomeOf p t (w n)) ≡ tallyOf p t w (n + 1)
   unfolding tallyOf
   step n =
-      ap₂ both (count-snoc (λ i. isCorrected (outcomeOf p t (w i))) n)
-      (count-snoc (λ i. isUncorrectable (outcomeOf p t (w i))) n)
+      ap₂ both (sym (count-snoc (λ i. isCorrected (outcomeOf p t (w i))) n))
+      (sym (count-snoc (λ i. isUncorrectable (outcomeOf p t (w i))) n))
 
   -- the word n, of which o became
   pub tally-more : (n : ℕ) (m : Tally) (o : Outcome) → m ≡ tallyOf p t w n → o ≡ outcomeOf p t (w n) → counted m o ≡ tallyOf p t w (n + 1)

@@ -8,7 +8,6 @@ use lib.ListN.{length}
 use Rattle.dataframe.specs.Checks.{infoOf, numberOf, frameRefusal}
 use Rattle.eccblock.specs.Parts.{frameOf, mainOfBlock}
 use Rattle.repairer.specs.Repair.{repaired, talliesOf}
-use Rattle.repairer.specs.declared.Tallies.{Tallies}
 use Rattle.repairer.specs.declared.Repaired.{Repaired}
 use Rattle.repairer.specs.declared.Repaired.the-variants.{Block, FrameRefused, LengthRefused}
 

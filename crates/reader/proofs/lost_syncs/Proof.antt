@@ -3,8 +3,7 @@ use mathlib.Core.Path.{_≡_, refl, sym, ap, ap₂, _∙_}
 use Prim.Native.Nat.{_+_, _-_, _≤_}
 use native.Mathlib.Omega.{arith}
 use Rattle.lists.specs.Count.{countFrom}
-use Rattle.lists.proofs.Count.{count-le}
-use Rattle.lists.proofs.More7.{count-snoc}
+use Rattle.lists.proofs.Count.{count-le, count-snoc}
 use Rattle.reader.specs.Sector.{lostSync, syncTally}
 use borrow.Author.Needs.{needs}
 use Rattle.reader.proofs.lost_syncs.Statement.{statement}

@@ -4,8 +4,7 @@ use Prim.Native.Nat.{_+_, _-_, _<_, _≤_}
 use native.Mathlib.Omega.{arith}
 use lib.ListN.{length}
 use Rattle.lists.specs.Count.{bit, countFrom}
-use Rattle.lists.proofs.Count.{count-le}
-use Rattle.lists.proofs.More7.{count-snoc}
+use Rattle.lists.proofs.Count.{count-le, count-snoc}
 use Rattle.lists.proofs.Fill.{Upto, upto-none, upto-more, upto-all}
 use Rattle.channel.specs.Block.{readAt}
 use Rattle.reader.specs.Sector.{unknownAt, unknownTally}
