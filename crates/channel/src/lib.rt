@@ -21,15 +21,12 @@ pub struct Run {
     pub dsv: u64,
 }
 
-// The level from a bit on: a ONE flips it.
+// The level from a bit on: a ONE flips it. This and `moved` are the writer's inmost work, and have no branch to guess.
 fn turned(level: u8, b: bool) -> u8
     requires { ⌜ level < 2 ⌝ }
     ensures { λ r. ⌜ (r ≡ flipped level (bit b)) × (r < 2) ⌝ }
 {
-    if b {
-        return 1 - level;
-    }
-    level
+    (level + (b as u8)) % 2
 }
 
 // The DSV after one bit at a level.
@@ -37,7 +34,7 @@ fn moved(dsv: u64, level: u8) -> u64
     requires { ⌜ (level < 2) × ((1 ≤ dsv) × (dsv < 2199023255552)) ⌝ }
     ensures { λ r. ⌜ r ≡ dsv + 2 * level - 1 ⌝ }
 {
-    if level == 0 { dsv - 1 } else { dsv + 1 }
+    dsv + 2 * (level as u64) - 1
 }
 
 // Bit n of a half word.
