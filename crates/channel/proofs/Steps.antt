@@ -14,33 +14,52 @@ use Rattle.annexg.specs.Runs.{bitsOf, lead, trail, inside}
 use Rattle.channel.specs.Bits.{bitsAll}
 use Rattle.channel.specs.Channel.{joinRun}
 use Rattle.channel.specs.Inner.{leadOf, trailOf}
-use Rattle.channel.specs.Level.{flipped, levelAfter, dsvAfter, runAfter, bitAfter, Room}
+use Rattle.channel.specs.Level.{flipped, levelAfter, dsvAfter, runAfter, Room}
 use Rattle.channel.specs.declared.Run.{Run}
 
--- what is still to be done over the lowest n bits
-pub record Left (a run : Run) (w n : ℕ) : Type 0 where
-  pub state : run .state ≡ a .state
-  pub level : levelAfter (run .level) (bitsOf n w) ≡ levelAfter (a .level) (bitsOf 16 w)
-  pub dsv : dsvAfter (run .level) (run .dsv) (bitsOf n w) ≡ dsvAfter (a .level) (a .dsv) (bitsOf 16 w)
+-- of these bits, how many are at level ONE
+unfoldable pub high : ℕ → List ℕ → ℕ
+high l [] = 0
+high l (b ∷ bs) = flipped l b + high (flipped l b) bs
 
-pub left-step : (a run r : Run) (w n m : ℕ) → n ≡ suc m → r ≡ bitAfter run (w / 2 ^ m % 2) → Left a run w n → Left a r w m
-unfolding levelAfter dsvAfter
-left-step a run r w n m e g l =
-    subst (λ (x : Run). Left a x w m) (sym g)
-    (record {
-      state = l .state;
-      level = ap (λ (y : ℕ). levelAfter (run .level) (bitsOf y w)) (sym e) ∙ l .level;
-      dsv = ap (λ (y : ℕ). dsvAfter (run .level) (run .dsv) (bitsOf y w)) (sym e) ∙ l .dsv;
-    })
+flipped-level : (l b : ℕ) → l < 2 → flipped l b < 2
+flipped-level l zero h = h
+flipped-level l (suc b) h = omega arith
+
+-- a bit at level ONE moves the DSV by 1, any other by -1
+pub dsv-high : (l d : ℕ) (bs : List ℕ) → l < 2 → length bs ≤ d → dsvAfter l d bs + length bs ≡ d + 2 * high l bs
+unfolding dsvAfter high
+dsv-high l d [] h r = omega arith
+dsv-high l d (b ∷ bs) h r =
+    let k = flipped-level l b h in
+    let i = dsv-high (flipped l b) (d + 2 * flipped l b - 1) bs k (omega (arith, r)) in
+    omega (arith, i, k, r)
+
+-- from level a over a half word: at level l, with `ones` bits at level ONE passed, the lowest n bits are still to be done
+pub record Left (a l ones w n : ℕ) : Type 0 where
+  pub level : levelAfter l (bitsOf n w) ≡ levelAfter a (bitsOf 16 w)
+  pub passed : ones + high l (bitsOf n w) ≡ high a (bitsOf 16 w)
+
+pub left-step : (a l r o w n m : ℕ) → n ≡ suc m → r ≡ flipped l (w / 2 ^ m % 2) → Left a l o w n → Left a r (o + r) w m
+unfolding levelAfter high
+left-step a l r o w n m e g h =
+    let k : high l (bitsOf n w) ≡ flipped l (w / 2 ^ m % 2) + high (flipped l (w / 2 ^ m % 2)) (bitsOf m w) = ap (λ (y : ℕ). high l (bitsOf y w)) e in
+    subst (λ (x : ℕ). Left a x (o + x) w m) (sym g)
+    (record { level = ap (λ (y : ℕ). levelAfter l (bitsOf y w)) (sym e) ∙ h .level; passed = omega (arith, k, h .passed) })
 
 pub same-run : {a b : Run} → a .state ≡ b .state → a .level ≡ b .level → a .dsv ≡ b .dsv → a ≡ b
 same-run p q r = λ i. record { state = p i; level = q i; dsv = r i }
 
-pub left-none : (a run : Run) (w : ℕ) → Left a run w 0 → run ≡ runAfter a (a .state) (w ∷ [])
-unfolding bitsAll levelAfter dsvAfter
-left-none a run w l =
+pub left-none :
+    (a : Run) (l o w : ℕ) → a .level < 2 → 16 ≤ a .dsv → Left (a .level) l o w 0
+    → record { state = a .state; level = l; dsv = a .dsv + 2 * o - 16 } ≡ runAfter a (a .state) (w ∷ [])
+unfolding bitsAll levelAfter high
+left-none a l o w t r h =
     let e = sym (append-nil (bitsOf 16 w)) in
-    same-run (l .state) (l .level ∙ ap (levelAfter (a .level)) e) (l .dsv ∙ ap (dsvAfter (a .level) (a .dsv)) e)
+    let d = dsv-high (a .level) (a .dsv) (bitsOf 16 w) t r in
+    let n : length (bitsOf 16 w) ≡ 16 = refl in
+    let f : a .dsv + 2 * o - 16 ≡ dsvAfter (a .level) (a .dsv) (bitsOf 16 w) = omega (arith, d, n, h .passed) in
+    same-run refl (h .level ∙ ap (levelAfter (a .level)) e) (f ∙ ap (dsvAfter (a .level) (a .dsv)) e)
 
 -- the record after halves, with another State
 pub other-state : (a r : Run) (w n : ℕ) → r ≡ runAfter a (a .state) (w ∷ []) → record { state = n; level = r .level; dsv = r .dsv } ≡ runAfter a n (w ∷ [])
@@ -57,11 +76,6 @@ is-bit r false e h = let n = eqb-false r 1 e in zero-bit r h n
 
 pub odd-bit : (x : ℕ) → bit (eqb (x % 2) 1) ≡ x % 2
 odd-bit x = is-bit (x % 2) (eqb (x % 2) 1) refl (omega arith)
-
--- one bit moves the DSV by one
-pub bit-near : (run r : Run) (b : ℕ) → run .level < 2 → r ≡ bitAfter run b → (r .level < 2) × ((r .dsv ≤ run .dsv + 1) × (run .dsv ≤ r .dsv + 1))
-bit-near run r zero h e = subst (λ (x : Run). (x .level < 2) × ((x .dsv ≤ run .dsv + 1) × (run .dsv ≤ x .dsv + 1))) (sym e) (h, (omega arith, omega arith))
-bit-near run r (suc b) h e = subst (λ (x : Run). (x .level < 2) × ((x .dsv ≤ run .dsv + 1) × (run .dsv ≤ x .dsv + 1))) (sym e) (omega arith, (omega arith, omega arith))
 
 -- leading ZEROs
 pub lead-one : (w n m : ℕ) (b : Bool) → n ≡ suc m → b ≡ true → bit b ≡ w / 2 ^ m % 2 → lead (bitsOf n w) ≡ 0

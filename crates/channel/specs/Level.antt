@@ -32,10 +32,6 @@ dsvAfter l d (b ∷ bs) = dsvAfter (flipped l b) (d + 2 * flipped l b - 1) bs
 abbrev pub runAfter : Run → ℕ → List ℕ → Run
 runAfter r s hs = record { state = s; level = levelAfter (r .level) (bitsAll hs); dsv = dsvAfter (r .level) (r .dsv) (bitsAll hs) }
 
--- the running record after one bit
-abbrev pub bitAfter : Run → ℕ → Run
-bitAfter r b = record { state = r .state; level = flipped (r .level) b; dsv = r .dsv + 2 * flipped (r .level) b - 1 }
-
 -- a record's level is a level, and its DSV can move by n either way; the writer's DSV stays far inside (refusal 9)
 pub record Room (r : Run) (n : ℕ) : Type 0 where
   pub level : r .level < 2

@@ -9,7 +9,7 @@ ghost use Rattle.lists.specs.Count.{bit};
 ghost use Rattle.annexg.specs.Runs.{inside};
 ghost use Rattle.annexg.specs.Sync.{syncEnd};
 ghost use Rattle.channel.specs.Channel.{joinRun};
-ghost use Rattle.channel.specs.Level.{flipped, runAfter, bitAfter, Room};
+ghost use Rattle.channel.specs.Level.{flipped, runAfter, Room};
 ghost use Rattle.channel.specs.Block.{bitAt};
 ghost use Rattle.channel.specs.Bits.{blockRunFits, runsHold};
 ghost use Rattle.channel.specs.Inner.{leadOf, trailOf, Scanned};
@@ -21,20 +21,12 @@ pub struct Run {
     pub dsv: u64,
 }
 
-// The level from a bit on: a ONE flips it. This and `moved` are the writer's inmost work, and have no branch to guess.
+// The level from a bit on: a ONE flips it. This is the writer's inmost work: a sum and no branch.
 fn turned(level: u8, b: bool) -> u8
     requires { ⌜ level < 2 ⌝ }
     ensures { λ r. ⌜ (r ≡ flipped level (bit b)) × (r < 2) ⌝ }
 {
     (level + (b as u8)) % 2
-}
-
-// The DSV after one bit at a level.
-fn moved(dsv: u64, level: u8) -> u64
-    requires { ⌜ (level < 2) × ((1 ≤ dsv) × (dsv < 2199023255552)) ⌝ }
-    ensures { λ r. ⌜ r ≡ dsv + 2 * level - 1 ⌝ }
-{
-    dsv + 2 * (level as u64) - 1
 }
 
 // Bit n of a half word.
@@ -46,31 +38,24 @@ fn bit_of(w: u16, n: u16) -> bool
 }
 
 impl Run {
-    fn bit(self, b: bool) -> Run
-        requires { ⌜ Room self 1 ⌝ }
-        ensures { λ r. ⌜ r ≡ bitAfter self (bit b) ⌝ }
-    {
-        let level = turned(self.level, b);
-        let dsv = moved(self.dsv, level);
-        Run {
-            state: self.state,
-            level,
-            dsv,
-        }
-    }
-
-    // The step over a half word, first bit highest; the State stays.
+    // The step over a half word, first bit highest; the State stays. Of 16 bits those at level ONE count 1 and the others -1.
     pub fn half(self, w: u16) -> Run
         requires { ⌜ Room self 16 ⌝ }
         ensures { λ r. ⌜ r ≡ runAfter self (self .state) (w ∷ []) ⌝ }
     {
-        let mut run = self;
+        let mut level = self.level;
+        let mut ones: u8 = 0;
         let mut n: u16 = 16;
         while 0 < n {
             n -= 1;
-            run = run.bit(bit_of(w, n));
+            level = turned(level, bit_of(w, n));
+            ones += level;
         }
-        run
+        Run {
+            state: self.state,
+            level,
+            dsv: self.dsv + 2 * (ones as u64) - 16,
+        }
     }
 
     // The step over a Code Word, with the next State that the table gives with it.
