@@ -1,65 +1,41 @@
 //! MB/s of main data of the block maker and the writer, one thread, beside libfec encoding the parity of the same block. `bench/run` builds and runs it.
 //! The buffers are made once and not cleared between the calls. The inputs are the same random bytes for all.
+#![allow(dead_code)]
+#[path = "../../tests/src/gf.rs"]
+mod gf;
+#[path = "../../tests/src/library.rs"]
+mod library;
 #[path = "../../tests/src/random.rs"]
-#[allow(dead_code)]
 mod random;
+#[path = "../../tests/src/rs.rs"]
+mod rs;
+#[path = "../../tests/src/tables.rs"]
+mod tables;
+#[path = "../../tests/src/writing.rs"]
+mod writing;
 
 use random::Random;
 use std::ffi::c_void;
 use std::time::Instant;
+use writing::{Record, LAID, SECTOR};
 
 const MAIN: usize = 32_768;
 const BLOCK: usize = 37_856;
-const SECTOR: usize = 2_366;
-const LAID: usize = 4_836;
 
 extern "C" {
-    fn chamanzil_encode_block(
-        main: *const u8,
-        main_len: usize,
-        first: u32,
-        info: u8,
-        out: *mut u8,
-        out_len: usize,
-    ) -> u32;
-    fn chamanzil_write_sector(
-        state: *mut u8,
-        level: *mut u8,
-        dsv: *mut i64,
-        sectors: *mut u32,
-        closed: *mut bool,
-        bytes: *const u8,
-        bytes_len: usize,
-        out: *mut u8,
-        out_len: usize,
-    ) -> u32;
     fn init_rs_char(symsize: i32, gfpoly: i32, fcr: i32, prim: i32, nroots: i32, pad: i32) -> *mut c_void;
     fn encode_rs_char(rs: *mut c_void, data: *mut u8, parity: *mut u8);
 }
 
 fn encode(main: &[u8], out: &mut [u8]) {
-    let answer = unsafe { chamanzil_encode_block(main.as_ptr(), main.len(), 0x030000, 0, out.as_mut_ptr(), out.len()) };
-    assert_eq!(answer, 0);
+    assert_eq!(library::encode_block(main, 0x030000, 0, out), 0);
 }
 
 /// Sixteen sectors from the record of a new block.
 fn write(block: &[u8], out: &mut [u8]) {
-    let (mut state, mut level, mut dsv, mut sectors, mut closed) = (1u8, 0u8, 0i64, 0u32, false);
+    let mut record = Record::start();
     for (bytes, laid) in block.chunks(SECTOR).zip(out.chunks_mut(LAID)) {
-        let answer = unsafe {
-            chamanzil_write_sector(
-                &mut state,
-                &mut level,
-                &mut dsv,
-                &mut sectors,
-                &mut closed,
-                bytes.as_ptr(),
-                bytes.len(),
-                laid.as_mut_ptr(),
-                laid.len(),
-            )
-        };
-        assert_eq!(answer, 0);
+        assert_eq!(library::write_sector(&mut record, bytes, laid), 0);
     }
 }
 
