@@ -1,101 +1,189 @@
-//! MB/s of main data of the block maker and the writer, one thread, beside libfec encoding the parity of the same block. `bench/run` builds and runs it.
-//! The buffers are made once and not cleared between the calls. The inputs are the same random bytes for all.
+//! The speed of the proved library beside libfec, one thread, as MB/s of main data and as ratios. `bench/run` builds and runs it.
+//! Nothing is cleared but what a call would find changed: before each call of the repairer the damaged block is copied into the block buffer anew, before
+//! libfec's decoding too, and that copy is not timed. Tables that a call needs are made within it, as for a user. Caches are warm: a figure is the best of 15
+//! rounds of 12 calls.
 #![allow(dead_code)]
 #[path = "../../tests/src/gf.rs"]
 mod gf;
 #[path = "../../tests/src/library.rs"]
 mod library;
+mod peer;
 #[path = "../../tests/src/random.rs"]
 mod random;
 #[path = "../../tests/src/rs.rs"]
 mod rs;
 #[path = "../../tests/src/tables.rs"]
 mod tables;
+mod timing;
 #[path = "../../tests/src/writing.rs"]
 mod writing;
 
+use peer::Peer;
 use random::Random;
-use std::ffi::c_void;
-use std::time::Instant;
+use timing::{rate, seconds};
 use writing::{Record, LAID, SECTOR};
 
 const MAIN: usize = 32_768;
 const BLOCK: usize = 37_856;
+const STREAM: usize = 77_380;
+const FIRST: u32 = 0x030000;
 
-extern "C" {
-    fn init_rs_char(symsize: i32, gfpoly: i32, fcr: i32, prim: i32, nroots: i32, pad: i32) -> *mut c_void;
-    fn encode_rs_char(rs: *mut c_void, data: *mut u8, parity: *mut u8);
+fn encode(main: &[u8], block: &mut [u8]) {
+    assert_eq!(library::encode_block(main, FIRST, 0, block), 0);
 }
 
-fn encode(main: &[u8], out: &mut [u8]) {
-    assert_eq!(library::encode_block(main, 0x030000, 0, out), 0);
-}
-
-/// Sixteen sectors from the record of a new block.
-fn write(block: &[u8], out: &mut [u8]) {
+/// The sectors from the record of a new block, and the closing code after the sixteenth.
+fn write(block: &[u8], stream: &mut [u8]) {
     let mut record = Record::start();
-    for (bytes, laid) in block.chunks(SECTOR).zip(out.chunks_mut(LAID)) {
+    for (bytes, laid) in block.chunks(SECTOR).zip(stream.chunks_mut(LAID)) {
         assert_eq!(library::write_sector(&mut record, bytes, laid), 0);
     }
-}
-
-/// libfec's codes: the column's 192 bytes with 16, the row's 172 with 10.
-struct Peer {
-    column: *mut c_void,
-    row: *mut c_void,
-}
-
-impl Peer {
-    fn new() -> Peer {
-        unsafe {
-            Peer {
-                column: init_rs_char(8, 0x11D, 0, 1, 16, 47),
-                row: init_rs_char(8, 0x11D, 0, 1, 10, 73),
-            }
-        }
-    }
-
-    /// The parity of a block whose 192 rows of 172 bytes are in place, 182 apart, with the outer parity in the 16 rows after them.
-    fn parity(&self, rows: &mut [u8]) {
-        let (mut column, mut outer) = ([0u8; 192], [0u8; 16]);
-        for j in 0..172 {
-            (0..192).for_each(|i| column[i] = rows[182 * i + j]);
-            unsafe { encode_rs_char(self.column, column.as_mut_ptr(), outer.as_mut_ptr()) };
-            (0..16).for_each(|i| rows[182 * (192 + i) + j] = outer[i]);
-        }
-        for row in rows.chunks_mut(182) {
-            let (data, inner) = row.split_at_mut(172);
-            unsafe { encode_rs_char(self.row, data.as_mut_ptr(), inner.as_mut_ptr()) };
-        }
+    if block.len() == BLOCK {
+        assert_eq!(library::close(&mut record, &mut stream[16 * LAID..]), 0);
     }
 }
 
-/// The rows of a block in recording order, before they were moved.
-fn rows_of(block: &[u8]) -> Vec<u8> {
-    let recorded = |i: usize| if i < 192 { i + i / 12 } else { 13 * (i - 191) - 1 };
-    (0..208).flat_map(|i| block[182 * recorded(i)..][..182].to_vec()).collect()
+fn read_sectors(stream: &[u8], block: &mut [u8]) {
+    let mut tallies = [0; 2];
+    for (s, bytes) in block.chunks_mut(SECTOR).enumerate() {
+        assert_eq!(library::read_sector(&stream[LAID * s..][..LAID + 2], bytes, &mut tallies), 0);
+    }
 }
 
-/// MB/s of main data, the best of several runs.
-fn rate(mut call: impl FnMut()) -> f64 {
-    let best = (0..7).map(|_| {
-        let start = Instant::now();
-        (0..40).for_each(|_| call());
-        start.elapsed().as_secs_f64()
-    });
-    40.0 * MAIN as f64 / 1e6 / best.fold(f64::INFINITY, f64::min)
+/// What the calls work on, made once.
+struct Bench {
+    main: Vec<u8>,
+    block: Vec<u8>,
+    stream: Vec<u8>,
+    given: Vec<u8>,
+    work: Vec<u8>,
+    out: Vec<u8>,
+    laid: Vec<u8>,
+    peer: Peer,
+}
+
+impl Bench {
+    fn new(random: &mut Random) -> Bench {
+        let main = random.bytes(MAIN);
+        let (mut block, mut stream) = (vec![0; BLOCK], vec![0; STREAM]);
+        encode(&main, &mut block);
+        write(&block, &mut stream);
+        Bench {
+            given: block.clone(),
+            work: vec![0; BLOCK],
+            out: vec![0; MAIN],
+            laid: vec![0; STREAM],
+            peer: Peer::new(),
+            main,
+            block,
+            stream,
+        }
+    }
+
+    fn repair(&mut self) {
+        let mut report = [0; 6];
+        assert_eq!(library::repair_block(&mut self.work, &mut self.out, &mut report), 0);
+    }
+
+    fn read(&mut self, stream: &[u8]) {
+        let mut report = [0; 8];
+        assert_eq!(library::read_block(stream, &mut self.work, &mut self.out, &mut report), 0);
+    }
+
+    /// The repair of `given`, ours and libfec's, and whether both give the main rows and columns back.
+    fn repairs(&mut self) -> [f64; 2] {
+        let anew = |b: &mut Bench| b.work.copy_from_slice(&b.given);
+        let ours = seconds(self, anew, Bench::repair);
+        assert!(self.out == self.main, "the repair differs");
+        let theirs = seconds(self, anew, |b| b.peer.decode(&mut b.work));
+        let data = |block: &[u8]| -> Vec<u8> { block.chunks(182).flat_map(|r| r[..172].to_vec()).collect() };
+        assert!(data(&self.work) == data(&self.block), "libfec's repair differs");
+        [ours, theirs]
+    }
+
+    /// `count` wrong bytes in each row.
+    fn damage_rows(&mut self, random: &mut Random, count: usize) {
+        self.given.copy_from_slice(&self.block);
+        for row in self.given.chunks_mut(182) {
+            random.places(182, count).into_iter().for_each(|p| row[p] ^= 1 + random.below(255) as u8);
+        }
+    }
+
+    /// Eight rows of random bytes.
+    fn damage_whole_rows(&mut self, random: &mut Random) {
+        self.given.copy_from_slice(&self.block);
+        for q in random.places(208, 8) {
+            self.given[182 * q..][..182].copy_from_slice(&random.bytes(182));
+        }
+    }
+}
+
+fn line(work: &str, ours: f64, theirs: Option<(&str, f64)>) {
+    let rate_of = rate(1.0, ours);
+    match theirs {
+        None => println!("| {work} | {rate_of:.1} | | |"),
+        Some((name, t)) => println!("| {work} | {rate_of:.1} | {:.1} ({name}) | {:.1} |", rate(1.0, t), t / ours),
+    }
+}
+
+fn table(b: &mut Bench, random: &mut Random) {
+    println!("| work | MB/s of main data | libfec, MB/s | times libfec |");
+    println!("|---|---|---|---|");
+    let nothing = |_: &mut Bench| {};
+    let ours = seconds(b, nothing, |b| encode(&b.main, &mut b.work));
+    assert!(b.work == b.block);
+    let theirs = seconds(b, nothing, |b| b.peer.parity(&mut b.work));
+    assert!(b.work == b.block, "libfec's parity differs");
+    line("block maker", ours, Some(("parity", theirs)));
+    line("sector writer and closing", seconds(b, nothing, |b| write(&b.block, &mut b.laid)), None);
+    line("sector reader, clean stream", seconds(b, nothing, |b| read_sectors(&b.stream, &mut b.work)), None);
+    let [ours, theirs] = b.repairs();
+    line("repair, clean block", ours, Some(("decoding", theirs)));
+    for count in 1..6 {
+        b.damage_rows(random, count);
+        let [ours, theirs] = b.repairs();
+        line(&format!("repair, {count} wrong in each row"), ours, Some(("decoding", theirs)));
+    }
+    b.damage_whole_rows(random);
+    let [ours, theirs] = b.repairs();
+    line("repair, 8 dead rows", ours, Some(("decoding", theirs)));
+    let stream = b.stream.clone();
+    line("whole chain, clean stream", seconds(b, nothing, |b| b.read(&stream)), None);
+    assert!(b.out == b.main);
+}
+
+/// How the times grow: sectors of one block, and blocks that no cache holds together.
+fn growth(b: &mut Bench, random: &mut Random) {
+    println!();
+    println!("| sectors | writer, µs | reader, µs |");
+    println!("|---|---|---|");
+    for n in [1, 2, 4, 8, 16] {
+        let nothing = |_: &mut Bench| {};
+        let writer = seconds(b, nothing, |b| write(&b.block[..SECTOR * n], &mut b.laid));
+        let reader = seconds(b, nothing, |b| read_sectors(&b.stream, &mut b.work[..SECTOR * n]));
+        println!("| {n} | {:.0} | {:.0} |", 1e6 * writer, 1e6 * reader);
+    }
+    println!();
+    println!("| blocks | maker, ms | whole chain, ms |");
+    println!("|---|---|---|");
+    for n in [1, 4, 16, 64, 256] {
+        let mains: Vec<Vec<u8>> = (0..n).map(|_| random.bytes(MAIN)).collect();
+        let mut blocks = vec![vec![0; BLOCK]; n];
+        let start = std::time::Instant::now();
+        mains.iter().zip(&mut blocks).for_each(|(m, k)| encode(m, k));
+        let maker = start.elapsed().as_secs_f64();
+        let mut streams = vec![vec![0; STREAM]; n];
+        blocks.iter().zip(&mut streams).for_each(|(k, s)| write(k, s));
+        let start = std::time::Instant::now();
+        streams.iter().for_each(|s| b.read(s));
+        println!("| {n} | {:.2} | {:.2} |", 1e3 * maker, 1e3 * start.elapsed().as_secs_f64());
+        assert!(b.out == mains[n - 1]);
+    }
 }
 
 fn main() {
-    let main = Random::new(1).bytes(MAIN);
-    let mut block = vec![0u8; BLOCK];
-    println!("block maker        {:6.1} MB/s of main data", rate(|| encode(&main, &mut block)));
-    let made = rows_of(&block);
-    let mut rows = made.clone();
-    rows[182 * 192..].fill(0);
-    let peer = Peer::new();
-    println!("libfec, parity only{:6.1} MB/s", rate(|| peer.parity(&mut rows)));
-    assert!(rows == made, "libfec's parity differs");
-    let mut stream = vec![0u8; 16 * LAID];
-    println!("writer             {:6.1} MB/s", rate(|| write(&block, &mut stream)));
+    let mut random = Random::new(1);
+    let mut bench = Bench::new(&mut random);
+    table(&mut bench, &mut random);
+    growth(&mut bench, &mut random);
 }

@@ -84,10 +84,10 @@ pub fn refusal(main: usize, out: usize, first: u32, info: u8) -> u32 {
     0
 }
 
-/// The parity is added to the rows in the order of clause 18, and then the rows move.
-pub fn block(main: &[u8], first: u32, info: u8) -> Vec<u8> {
-    let frames = main.chunks(2048).zip(first..);
-    let data: Vec<u8> = frames.flat_map(|(part, number)| frame(part, info, number)).collect();
+/// Sixteen Scrambled Frames as a block: parity is added to their rows in the order of clause 18, and then the rows move.
+pub fn block_of_frames(frames: &[Vec<u8>]) -> Vec<u8> {
+    let data = frames.concat();
+    assert_eq!(data.len(), 16 * FRAME);
     let mut rows: Vec<Vec<u8>> = data.chunks(172).map(|r| r.to_vec()).collect();
     rows.resize(208, vec![0; 172]);
     let outer = Code::column();
@@ -104,4 +104,9 @@ pub fn block(main: &[u8], first: u32, info: u8) -> Vec<u8> {
         block[at..at + 182].copy_from_slice(&inner.encoded(row));
     }
     block
+}
+
+pub fn block(main: &[u8], first: u32, info: u8) -> Vec<u8> {
+    let frames: Vec<Vec<u8>> = main.chunks(2048).zip(first..).map(|(part, number)| frame(part, info, number)).collect();
+    block_of_frames(&frames)
 }

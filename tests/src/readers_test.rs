@@ -1,11 +1,10 @@
 //! The sector reader, the block repairer and the whole-block reader of the library against the second implementation.
-use crate::block::{block, frame, recorded, BLOCK, FRAME, MAIN};
+use crate::block::{block, block_of_frames, frame, BLOCK, MAIN};
 use crate::blocks_test::accepted;
 use crate::library;
 use crate::random::Random;
 use crate::reading::{repair_block, Answer, Reader, Tallies};
 use crate::report::Report;
-use crate::rs::Code;
 use crate::tables::Tables;
 use crate::writing::{permitted_stream, LAID, SECTOR};
 
@@ -262,27 +261,6 @@ pub fn undamaged(report: &mut Report, random: &mut Random, t: &Tables, reader: &
 }
 
 // ---- refusals
-
-/// A block whose rows and columns are code words, of any sixteen frames.
-fn block_of_frames(frames: &[Vec<u8>]) -> Vec<u8> {
-    let data = frames.concat();
-    assert_eq!(data.len(), 16 * FRAME);
-    let mut rows: Vec<Vec<u8>> = data.chunks(172).map(|r| r.to_vec()).collect();
-    rows.resize(208, vec![0; 172]);
-    let (outer, inner) = (Code::column(), Code::row());
-    for j in 0..172 {
-        let column: Vec<u8> = rows[..192].iter().map(|r| r[j]).collect();
-        for (i, p) in outer.parity(&column).into_iter().enumerate() {
-            rows[192 + i][j] = p;
-        }
-    }
-    let mut made = vec![0; BLOCK];
-    for (i, row) in rows.iter().enumerate() {
-        let at = 182 * recorded(i);
-        made[at..at + 182].copy_from_slice(&inner.encoded(row));
-    }
-    made
-}
 
 /// A changed frame k of a block, and the refusal that it must get.
 fn spoiled_frame(random: &mut Random, main: &[u8], info: u8, number: u32, kind: usize) -> (Vec<u8>, u32) {
