@@ -1,0 +1,4 @@
+pub mod Digits
+pub mod Sectors
+pub mod Answers
+pub mod Back

@@ -1,0 +1,2 @@
+pub mod Formatter
+pub mod Hexadecimal
