@@ -10,7 +10,7 @@
  * several numbers apply, the lowest is given, but 9 goes before 7 and 8. Where none applies, nothing is refused.
  *
  * Threads. The functions keep no state, take no lock and allocate nothing: any number of threads may call them at once, on buffers of their own (a buffer that
- * is only read may be shared). A call needs up to 512 KiB of stack.
+ * is only read may be shared). A call needs less than 256 KiB of stack.
  *
  * C99 or later, and C++. x86-64 Linux. Link with target/staticlib/libffi.a; nothing else is needed.
  */

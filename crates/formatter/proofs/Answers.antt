@@ -18,7 +18,8 @@ use Rattle.streams.proofs.Frames.{block-stream}
 use Rattle.writer.specs.Records.{start, runOf}
 use Rattle.writer.specs.Session.{blockCalls}
 use Rattle.writer.proofs.Calls.{block-written}
-use Rattle.formatter.specs.Formatter.{blockStream, formatRefusal, formattedBuffer, sectorRoom, closingRoom}
+use Rattle.formatter.specs.Formatter.{blockStream, formatRefusal, formattedBuffer}
+use Rattle.formatter.specs.Rooms.{sectorRoom, closingRoom}
 
 -- ---- the number and the buffer
 

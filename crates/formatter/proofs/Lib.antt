@@ -2,3 +2,4 @@ pub mod Digits
 pub mod Sectors
 pub mod Answers
 pub mod Back
+pub mod Examples

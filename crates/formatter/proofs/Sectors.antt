@@ -11,7 +11,7 @@ use Rattle.writer.specs.Answers.{sectorNext, sectorOut, closingOut}
 use Rattle.writer.specs.Records.{start}
 use Rattle.writer.specs.Session.{Session, sectorCalls, blockCalls}
 use Rattle.writer.specs.declared.Record.{Record}
-use Rattle.formatter.specs.Formatter.{sectorRoom, closingRoom}
+use Rattle.formatter.specs.Rooms.{sectorRoom, closingRoom}
 
 -- the calls for the first k sectors
 abbrev pub calls : List ℕ → List ℕ → ℕ → Session

@@ -2,9 +2,9 @@
 -- Assumes nothing.
 use mathlib.Core.Bool.{cond}
 use mathlib.Core.List.{List}
-use Prim.Native.Nat.{ℕ, _*_}
+use Prim.Native.Nat.{ℕ}
 use lib.Dec.{eqb}
-use lib.ListN.{length, take, drop}
+use lib.ListN.{length}
 use Rattle.channel.specs.Block.{packed}
 use Rattle.eccblock.specs.Block.{block}
 use Rattle.eccblock.specs.Encode.{encodeRefusal}
@@ -22,11 +22,3 @@ formatRefusal n m first info = cond (eqb m 77380) (encodeRefusal n 37856 first i
 -- the stream buffer after the call: the block's stream, or what it held where the call is refused
 unfoldable pub formattedBuffer : List ℕ → ℕ → ℕ → List ℕ → List ℕ
 formattedBuffer main first info old = cond (eqb (formatRefusal (length main) (length old) first info) 0) (blockStream (block main first info)) old
-
--- the part of a stream buffer that is lent for sector k (the vocabulary of inner contracts, as what follows: nobody needs to believe it)
-abbrev pub sectorRoom : List ℕ → ℕ → List ℕ
-sectorRoom old k = take 4836 (drop (4836 * k) old)
-
--- the part that is lent for the closing code
-abbrev pub closingRoom : List ℕ → List ℕ
-closingRoom old = drop 77376 old

@@ -9,7 +9,7 @@ use Rattle.eccblock.specs.Block.{block}
 use Rattle.eccblock.specs.Encode.{encodeRefusal, encodeNumber, Accepted}
 use Rattle.eccblock.proofs.Laws.{block-length, block-bytes}
 use Rattle.writer.specs.Session.{blockCalls}
-use Rattle.formatter.specs.Formatter.{sectorRoom, closingRoom}
+use Rattle.formatter.specs.Rooms.{sectorRoom, closingRoom}
 use Rattle.formatter.proofs.Answers.{length-refused, number-passed, buffer-left, buffer-made, block-made, calls-stream}
 use borrow.Author.Needs.{needs}
 use Rattle.formatter.proofs.format_block.Statement.{statement}
