@@ -1,4 +1,4 @@
-// The C boundary, for tests and benchmarks in Rust: numbers and byte slices only. A `&[u8]` passes as a pointer and a length. No function has a `requires`:
+// The C boundary, for C (include/), Rust (rust/), tests and benchmarks: numbers and byte slices only. A `&[u8]` passes as a pointer and a length. No function has a `requires`:
 // a buffer of another length than stated gets refusal 1 (document 01) and everything is left as it was.
 mod blocks;
 mod codewords;
@@ -7,6 +7,7 @@ mod session;
 mod words;
 
 pub use blocks::chamanzil_encode_block;
+pub use blocks::chamanzil_format_block;
 pub use codewords::chamanzil_column_parity;
 pub use codewords::chamanzil_correct_column;
 pub use codewords::chamanzil_correct_row;

@@ -1,0 +1,92 @@
+-- `format_block` meets its contract. Assumes nothing.
+use mathlib.Core.List.{List}
+use mathlib.Core.Path.{_≡_, sym, ap, _∙_}
+use Prim.Native.Nat.{ℕ}
+use native.Mathlib.Omega.{arith}
+use lib.ListN.{length}
+use Rattle.lists.proofs.Bytes.{bytes-of}
+use Rattle.eccblock.specs.Block.{block}
+use Rattle.eccblock.specs.Encode.{encodeRefusal, encodeNumber, Accepted}
+use Rattle.eccblock.proofs.Laws.{block-length, block-bytes}
+use Rattle.writer.specs.Session.{blockCalls}
+use Rattle.formatter.specs.Rooms.{sectorRoom, closingRoom}
+use Rattle.formatter.proofs.Answers.{length-refused, number-passed, buffer-left, buffer-made, block-made, calls-stream}
+use borrow.Author.Needs.{needs}
+use Rattle.formatter.proofs.format_block.Statement.{statement}
+use Rattle.formatter.proofs.format_block.Tie as tie
+use Rattle.formatter.proofs.format_block.Reads as reads
+use Rattle.formatter.proofs.format_block.Lts as lts
+use Rattle.eccblock.proofs.encode_block.Reads as encode-block-reads
+use Rattle.eccblock.proofs.encode_number.Reads as encode-number-reads
+use Rattle.formatter.proofs.block_room.Reads as block-room-reads
+use Rattle.formatter.proofs.write_block.Reads as write-block-reads
+
+returns : tie.Need-returns
+returns c =
+    let a = c .before .before .before .args in
+    length-refused (a .main .now) (a .first) (a .info) (a .out .now) (c .if1 .taken)
+
+block-room-requires : tie.Need-block-room-requires
+block-room-requires c κs = search needs
+
+slice-aggregate-encode-block : tie.Need-slice-aggregate-encode-block
+slice-aggregate-encode-block c = search needs
+
+encode-block-requires : tie.Need-encode-block-requires
+encode-block-requires c κs = search needs
+
+encode-number-requires : tie.Need-encode-number-requires
+encode-number-requires c κs = search needs
+
+returns-2 : tie.Need-returns-2
+returns-2 c =
+    let a = c .before .before .before .before .before .before .before .before .before .args in
+    let e = c .before .before .before .encode-block in
+    let p = number-passed (a .main .now) (a .first) (a .info) (a .out .now) _ (encodeNumber (e .result)) (c .before .before .before .before .before .before .if1 .left) (sym (c .before .before .before .before .before .block-room .ensures)) (e .ensures .0) in
+    (p, buffer-left (a .main .now) (a .first) (a .info) (a .out .now) (encodeNumber (e .result)) (λ z. c .if2 .taken (c .before .encode-number .ensures ∙ z)) p)
+
+slice-aggregate-write-block : tie.Need-slice-aggregate-write-block
+slice-aggregate-write-block c = search needs
+
+write-block-requires : tie.Need-write-block-requires
+write-block-requires c κs = search needs
+
+same-length : tie.Need-same-length
+same-length c = search needs
+
+returns-3 : tie.Need-returns-3
+returns-3 c =
+    let a = c .before .before .before .before .before .before .before .before .before .before .before .before .before .before .args in
+    let e = c .before .before .before .before .before .before .before .before .encode-block in
+    let l = c .before .before .before .before .before .before .before .before .before .before .before .if1 .left in
+    let r = sym (c .before .before .before .before .before .before .before .before .before .before .block-room .ensures) in
+    let p = number-passed (a .main .now) (a .first) (a .info) (a .out .now) _ (encodeNumber (e .result)) l r (e .ensures .0) in
+    let z : encodeNumber (e .result) ≡ 0 = sym (c .before .before .before .before .before .before .encode-number .ensures) ∙ c .before .before .before .before .before .if2 .left in
+    let ok : Accepted (a .main .now) (a .first) (a .info) =
+    record {
+      bytes = bytes-of (a .main .now) (λ i h. omega (arith, c .before .before .before .before .before .before .before .before .before .before .before .before .before .shared-slice-known .given i));
+      byte = omega arith;
+      taken = ap (λ (n : ℕ). encodeRefusal (length (a .main .now)) n (a .first) (a .info)) (sym r) ∙ sym (e .ensures .0) ∙ z;
+    } in
+    let m = e .ensures .1 ∙ block-made (a .main .now) (a .first) (a .info) _ (sym z ∙ e .ensures .0) in
+    let made = block (a .main .now) (a .first) (a .info) in (
+      p,
+      buffer-made (a .main .now) (a .first) (a .info) (a .out .now) _ (sym z ∙ p)
+          (c .before .before .write-block .ensures ∙ ap (λ (xs : List ℕ). blockCalls xs (sectorRoom (a .out .now)) (closingRoom (a .out .now)) .bytes) m
+          ∙ calls-stream made (a .out .now) (block-length (a .main .now) (a .first) (a .info) ok) (block-bytes (a .main .now) (a .first) (a .info) ok) l),
+    )
+
+pub format-block-spec : {M : Type 1} → statement M
+format-block-spec =
+    tie.close
+    (tie.spec
+    returns
+    block-room-requires
+    slice-aggregate-encode-block
+    encode-block-requires
+    encode-number-requires
+    returns-2
+    slice-aggregate-write-block
+    write-block-requires
+    same-length
+    returns-3)

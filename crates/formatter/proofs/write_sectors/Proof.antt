@@ -1,0 +1,113 @@
+-- `write_sectors` meets its contract. Assumes nothing.
+use mathlib.Core.Path.{_≡_, refl, sym, ap, _∙_}
+use mathlib.Core.List.{List, _++_}
+use Prim.Native.Nat.{ℕ, _+_, _-_, _*_, _<_, _≤_}
+use lib.ListN.{length, take, drop, length-drop}
+use lib.Seq.{length-take-le}
+use Rattle.formatter.proofs.Sectors.{Written, written-none, written-more, written-length}
+use native.Mathlib.Omega.{arith}
+use borrow.Author.Needs.{needs}
+use Rattle.formatter.proofs.write_sectors.Statement.{statement}
+use Rattle.formatter.proofs.write_sectors.Tie as tie
+
+abbrev Inv-loop : tie.InvT-loop
+Inv-loop block out₀ w₀ k₀ out w k = (k ≤ 16) × Written block out₀ k w out × (length out ≡ 77380)
+
+abbrev μ-loop : tie.MeasureT-loop
+μ-loop block out₀ w₀ k₀ out w k = 16 - k
+
+new-requires : tie.Need-new-requires Inv-loop μ-loop
+new-requires c κs = search needs
+
+loop-holds : tie.Need-loop-holds Inv-loop μ-loop
+loop-holds c = (omega arith, written-none _ _ _ (c .new .ensures), c .before .before .before .pre .1)
+
+mul-from : tie.Need-mul-from Inv-loop μ-loop
+mul-from c = omega arith
+
+add-till : tie.Need-add-till Inv-loop μ-loop
+add-till c = omega arith
+
+mul-at : tie.Need-mul-at Inv-loop μ-loop
+mul-at c = omega arith
+
+add-end : tie.Need-add-end Inv-loop μ-loop
+add-end c = omega arith
+
+sub-write-sector : tie.Need-sub-write-sector Inv-loop μ-loop
+sub-write-sector c = omega arith
+
+part-write-sector-start : tie.Need-part-write-sector-start Inv-loop μ-loop
+part-write-sector-start c = omega arith
+
+part-write-sector-end : tie.Need-part-write-sector-end Inv-loop μ-loop
+part-write-sector-end c = omega arith
+
+sub-write-sector-2 : tie.Need-sub-write-sector-2 Inv-loop μ-loop
+sub-write-sector-2 c = omega arith
+
+part-write-sector-start-2 : tie.Need-part-write-sector-start-2 Inv-loop μ-loop
+part-write-sector-start-2 c = omega arith
+
+part-write-sector-end-2 : tie.Need-part-write-sector-end-2 Inv-loop μ-loop
+part-write-sector-end-2 c = omega arith
+
+write-sector-requires : tie.Need-write-sector-requires Inv-loop μ-loop
+write-sector-requires c κs = search needs
+
+add-k : tie.Need-add-k Inv-loop μ-loop
+add-k c = omega arith
+
+loop-less : tie.Need-loop-less Inv-loop μ-loop
+loop-less c = omega arith
+
+loop-again : tie.Need-loop-again Inv-loop μ-loop
+loop-again c =
+    let s = c .before .before .before .before .before .before .before .before .before .before .before in
+    let l = c .before .before .before .before .before .before .before .loop in
+    let q = c .before .before .before .write-sector in
+    let n = 4836 * l .k + 4836 - 4836 * l .k in
+    let b : List ℕ = take (2366 * l .k + 2366 - 2366 * l .k) (drop (2366 * l .k) (s .args .block .now)) in
+    let o : List ℕ = take n (drop (4836 * l .k) (l .out)) in
+    let m : 2366 * l .k + 2366 - 2366 * l .k ≡ 2366 = omega arith in
+    let eb : b ≡ take 2366 (drop (2366 * l .k) (s .args .block .now)) = ap (λ (x : ℕ). take x (drop (2366 * l .k) (s .args .block .now))) m in
+    let more =
+    written-more (s .args .block .now) (s .args .out .now) (l .k) (l .w) (l .out) (omega arith) (s .pre .1) (l .inv .1) (q .last .1 .1 .0) b o (q .result .next) n (omega arith) (omega arith) eb refl
+    (q .ensures .1 .0) (q .ensures .1 .1) (q .kept .1 .1 .0) in
+    (omega arith, more, written-length (s .args .block .now) (s .args .out .now) (l .k + 1) _ _ (omega arith) (s .pre .1) more)
+
+same-length : tie.Need-same-length Inv-loop μ-loop
+same-length c = c .before .loop .inv .2 ∙ sym (c .before .before .before .before .before .pre .1)
+
+returns : tie.Need-returns Inv-loop μ-loop
+returns c =
+    let s = c .before .before .before .before .before in
+    let l = c .before .loop in
+    let e : l .k ≡ 16 = omega arith in
+    let g : Written (s .args .block .now) (s .args .out .now) 16 (l .w) (l .out) = rw e at (l .inv .1) in
+    (g .next, g .bytes)
+
+pub write-sectors-spec : {M : Type 1} → statement M
+write-sectors-spec =
+    tie.close
+    (tie.spec
+    Inv-loop
+    μ-loop
+    new-requires
+    loop-holds
+    mul-from
+    add-till
+    mul-at
+    add-end
+    sub-write-sector
+    part-write-sector-start
+    part-write-sector-end
+    sub-write-sector-2
+    part-write-sector-start-2
+    part-write-sector-end-2
+    write-sector-requires
+    add-k
+    loop-less
+    loop-again
+    same-length
+    returns)

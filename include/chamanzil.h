@@ -1,0 +1,135 @@
+/* Chamanzil: the 80 mm DVD channel (ECMA-268), from main data to code bits and back.
+ *
+ * The functions of target/staticlib/libffi.a, which `rt staticlib ffi` builds. Each is proved to do what its contract in crates/ffi/src says, never to do
+ * anything undefined, and to return; the contracts cite definitions taken from the standard and from document 01. This file repeats them in words.
+ *
+ * Buffers. A buffer is two arguments: a pointer to its first byte and its length. A pointer is never NULL, not even where the length is 0. A buffer that is
+ * written (no `const`) overlaps no other argument. What was written is all of a buffer or nothing: no call leaves a half-filled buffer.
+ *
+ * Answers. 0: done. 1 to 9: refused, by the numbers below, and then every buffer and record is as it was, except where a function says otherwise. Where
+ * several numbers apply, the lowest is given, but 9 goes before 7 and 8. Where none applies, nothing is refused.
+ *
+ * Threads. The functions keep no state, take no lock and allocate nothing: any number of threads may call them at once, on buffers of their own (a buffer that
+ * is only read may be shared). A call needs less than 256 KiB of stack.
+ *
+ * C99 or later, and C++. x86-64 Linux. Link with target/staticlib/libffi.a; nothing else is needed.
+ */
+#ifndef CHAMANZIL_H
+#define CHAMANZIL_H
+
+#include <stdbool.h>
+#include <stddef.h>
+#include <stdint.h>
+
+#ifdef __cplusplus
+extern "C" {
+#endif
+
+/* ---- lengths */
+
+enum {
+    CHAMANZIL_MAIN = 32768,       /* main data of a block: 16 sectors of 2,048 bytes */
+    CHAMANZIL_BLOCK = 37856,      /* an ECC Block in recording order: 208 rows of 182 bytes */
+    CHAMANZIL_SECTOR = 2366,      /* a sector of a block, before the channel: 13 rows */
+    CHAMANZIL_SECTOR_BITS = 4836, /* a sector of a stream: 26 Sync Frames of 186 bytes */
+    CHAMANZIL_SECTOR_READ = 4838, /* the same with the two bytes after it */
+    CHAMANZIL_CLOSING = 4,        /* the closing code */
+    CHAMANZIL_STREAM = 77380,     /* a block's stream: 16 sectors and the closing code */
+    CHAMANZIL_ROW = 182,          /* a row with its 10 parity bytes */
+    CHAMANZIL_COLUMN = 208,       /* a column with its 16 parity bytes */
+    CHAMANZIL_SECTOR_REPORT = 2,  /* numbers in a report: of a sector, */
+    CHAMANZIL_REPAIR_REPORT = 6,  /* of the repairer, */
+    CHAMANZIL_BLOCK_REPORT = 8    /* of the whole-block reader */
+};
+
+/* ---- answers */
+
+enum {
+    CHAMANZIL_DONE = 0,
+    CHAMANZIL_LENGTH = 1,         /* a buffer has another length than stated */
+    CHAMANZIL_NUMBER = 2,         /* the first number is no multiple of 16, or over 16,777,200 */
+    CHAMANZIL_INFORMATION = 3,    /* the Sector Information has a bit outside 2D (hexadecimal) */
+    CHAMANZIL_IED = 4,            /* a frame's IED differs */
+    CHAMANZIL_ID = 5,             /* a frame's number or Information is not the one due, or frame 0's is none that a block may have */
+    CHAMANZIL_EDC = 6,            /* a frame's EDC differs */
+    CHAMANZIL_ENDED = 7,          /* a sector after the sixteenth, or anything after closing */
+    CHAMANZIL_UNFINISHED = 8,     /* closing before the sixteenth sector */
+    CHAMANZIL_RECORD = 9,         /* a record that the writer never hands out */
+    CHAMANZIL_CORRECTED = 16,     /* a row or column was no code word and became the one near it */
+    CHAMANZIL_UNCORRECTABLE = 17, /* there is none near enough, and it stays as it was */
+    CHAMANZIL_UNKNOWN_WORD = 256  /* a Code Word that is in no table */
+};
+
+/* ---- from main data to a stream */
+
+/* The block maker (clauses 16 to 19). `main` has CHAMANZIL_MAIN bytes, `out` CHAMANZIL_BLOCK. `first` is the number of the block's first sector, `info` the
+ * Sector Information byte. 0, 1, 2 or 3. After 0 `out` holds the block in recording order; after a refusal it is as it was. */
+uint32_t chamanzil_encode_block(const uint8_t *main, size_t main_len, uint32_t first, uint8_t info, uint8_t *out, size_t out_len);
+
+/* The formatter: the block maker, then the writer from a new record, in one call. `main` has CHAMANZIL_MAIN bytes, `out` CHAMANZIL_STREAM. 0, 1, 2 or 3.
+ * After 0 `out` holds the sixteen sectors and the closing code; after a refusal it is as it was. */
+uint32_t chamanzil_format_block(const uint8_t *main, size_t main_len, uint32_t first, uint8_t info, uint8_t *out, size_t out_len);
+
+/* The writer's record, in five numbers that the caller keeps from call to call: the State prescribed next (1 to 4), the NRZI level (0 or 1), the DSV, the
+ * sectors written and whether the closing code is written. A new record is 1, 0, 0, 0, false. A `bool` holds 0 or 1 and nothing else. */
+
+/* A sector by the two-stream rule of clause 22. `bytes` has CHAMANZIL_SECTOR bytes (sector k of a block starts at byte 2366 k), `out` CHAMANZIL_SECTOR_BITS.
+ * 0, 1, 7 or 9. After 0 `out` holds the sector's code bits, eight to a byte, first bit highest, and the record is the next one. After a refusal `out` and the
+ * record are as they were. */
+uint32_t chamanzil_write_sector(uint8_t *state, uint8_t *level, int64_t *dsv, uint32_t *sectors, bool *closed, const uint8_t *bytes, size_t bytes_len, uint8_t *out, size_t out_len);
+
+/* The closing code after the sixteenth sector. `out` has CHAMANZIL_CLOSING bytes. 0, 1, 7, 8 or 9, with `out` and the record as above. */
+uint32_t chamanzil_close(uint8_t *state, uint8_t *level, int64_t *dsv, uint32_t *sectors, bool *closed, uint8_t *out, size_t out_len);
+
+/* ---- from a stream back to main data */
+
+/* The sector reader. `stream` has CHAMANZIL_SECTOR_READ bytes, `out` CHAMANZIL_SECTOR, `report` CHAMANZIL_SECTOR_REPORT numbers. 0 or 1: no damage is
+ * refused here. After 0 `out` holds the bytes read, 0 for an unknown word, and `report` the unknown words and the SYNC places that hold none of the codes due
+ * there. After 1 both are as they were. */
+uint32_t chamanzil_read_sector(const uint8_t *stream, size_t stream_len, uint8_t *out, size_t out_len, uint32_t *report, size_t report_len);
+
+/* The block repairer. `block` has CHAMANZIL_BLOCK bytes, sixteen answers of the sector reader; `main` CHAMANZIL_MAIN; `report` CHAMANZIL_REPAIR_REPORT numbers.
+ * 0, 1, 4, 5 or 6. Each row becomes the code row within five bytes or stays, then each of the first 172 columns the code column within eight.
+ * After 0 `main` holds the main data, `block` the block after both repairs, and `report` the first number, the rows changed, the rows past help, the columns
+ * changed, the columns past help, 0. After 4, 5 or 6 `main` is as it was, `block` holds the block after both repairs, and `report` five zeros and the first
+ * frame that fails, 0 to 15. After 1 all three are as they were. */
+uint32_t chamanzil_repair_block(uint8_t *block, size_t block_len, uint8_t *main, size_t main_len, uint32_t *report, size_t report_len);
+
+/* The whole-block reader: sixteen sectors, then the repairer. `stream` has CHAMANZIL_STREAM bytes, `block` CHAMANZIL_BLOCK, `main` CHAMANZIL_MAIN, `report`
+ * CHAMANZIL_BLOCK_REPORT numbers. 0, 1, 4, 5 or 6, with `block` and `main` as the repairer leaves them; what `block` held before does not matter. After 0
+ * `report` holds the first number, the rows changed and past help, the columns changed and past help, the unknown words and the SYNC places without a code due
+ * there, summed over the sectors, and 0. After 4, 5 or 6 it holds seven zeros and the frame. After 1 all three are as they were. */
+uint32_t chamanzil_read_block(const uint8_t *stream, size_t stream_len, uint8_t *block, size_t block_len, uint8_t *main, size_t main_len, uint32_t *report, size_t report_len);
+
+/* ---- rows and columns of a block */
+
+/* The 10 parity bytes of a row of 172 bytes, the 16 of a column of 192, and the 2 bytes of IED of an ID of 4. 0 or 1; `out` is as it was after 1. */
+uint32_t chamanzil_row_parity(const uint8_t *word, size_t word_len, uint8_t *out, size_t out_len);
+uint32_t chamanzil_column_parity(const uint8_t *word, size_t word_len, uint8_t *out, size_t out_len);
+uint32_t chamanzil_ied(const uint8_t *id, size_t id_len, uint8_t *out, size_t out_len);
+
+/* The repair in place of a row of CHAMANZIL_ROW bytes with at most five wrong, of a column of CHAMANZIL_COLUMN bytes with at most eight. 0: it was a code
+ * word. 16: it became the one near it. 17: there is none near enough, and it is as it was. 1: another length, and it is as it was. */
+uint32_t chamanzil_correct_row(uint8_t *row, size_t row_len);
+uint32_t chamanzil_correct_column(uint8_t *column, size_t column_len);
+
+/* ---- Code Words and streams */
+
+/* The byte that a Code Word stands for where the 16 bits `following` come after it, or CHAMANZIL_UNKNOWN_WORD. */
+uint32_t chamanzil_read_word(uint16_t word, uint16_t following);
+
+/* 1 where a stream is no longer than CHAMANZIL_STREAM and has between its ONEs the runs of ZEROs that a block may have: 2 to 10, or the 13 of a SYNC Code at
+ * its place; else 0. */
+uint32_t chamanzil_runs_hold(const uint8_t *stream, size_t stream_len);
+
+/* ---- the field of 256 elements, x^8 + x^4 + x^3 + x^2 + 1 */
+
+/* A product; an element to a power (any element to the power 0 is 1). */
+uint8_t chamanzil_product(uint8_t a, uint8_t b);
+uint8_t chamanzil_power(uint8_t a, uint64_t n);
+
+#ifdef __cplusplus
+}
+#endif
+
+#endif

@@ -1,0 +1,83 @@
+/* Formats a block, damages its stream and reads it back, by the calls of chamanzil.h. Exits with 1 where anything differs from what is due.
+ * It is C99 and also C++: include/run compiles it as both. */
+#include "chamanzil.h"
+
+#include <stdio.h>
+#include <stdlib.h>
+#include <string.h>
+
+static uint8_t main_data[CHAMANZIL_MAIN];
+static uint8_t block[CHAMANZIL_BLOCK];
+static uint8_t stream[CHAMANZIL_STREAM];
+static uint8_t whole[CHAMANZIL_STREAM];
+static uint8_t read_block[CHAMANZIL_BLOCK];
+static uint8_t read_main[CHAMANZIL_MAIN];
+
+static void expect(bool holds, const char *what)
+{
+    if (!holds) {
+        fprintf(stderr, "FAILED: %s\n", what);
+        exit(1);
+    }
+}
+
+/* The writer's five numbers. */
+struct record {
+    uint8_t state;
+    uint8_t level;
+    int64_t dsv;
+    uint32_t sectors;
+    bool closed;
+};
+
+/* Block maker, sixteen sectors, closing code. */
+static void format(uint32_t first, uint8_t info)
+{
+    struct record w = {1, 0, 0, 0, false};
+    size_t k;
+    expect(chamanzil_encode_block(main_data, sizeof main_data, first, info, block, sizeof block) == CHAMANZIL_DONE, "encode_block");
+    for (k = 0; k < 16; k++) {
+        uint32_t answer = chamanzil_write_sector(&w.state, &w.level, &w.dsv, &w.sectors, &w.closed, block + k * CHAMANZIL_SECTOR, CHAMANZIL_SECTOR,
+            stream + k * CHAMANZIL_SECTOR_BITS, CHAMANZIL_SECTOR_BITS);
+        expect(answer == CHAMANZIL_DONE, "write_sector");
+    }
+    expect(chamanzil_close(&w.state, &w.level, &w.dsv, &w.sectors, &w.closed, stream + 16 * CHAMANZIL_SECTOR_BITS, CHAMANZIL_CLOSING) == CHAMANZIL_DONE, "close");
+    expect(w.sectors == 16 && w.closed, "the record after closing");
+}
+
+int main(void)
+{
+    uint32_t report[CHAMANZIL_BLOCK_REPORT] = {0, 0, 0, 0, 0, 0, 0, 0};
+    uint32_t answer;
+    size_t i;
+
+    for (i = 0; i < sizeof main_data; i++) {
+        main_data[i] = (uint8_t)(i * 7 + i / 256);
+    }
+    format(0x030000, 0x00);
+    expect(chamanzil_runs_hold(stream, sizeof stream) == 1, "the runs of ZEROs");
+    expect(chamanzil_format_block(main_data, sizeof main_data, 0x030000, 0x00, whole, sizeof whole) == CHAMANZIL_DONE, "format_block");
+    expect(memcmp(whole, stream, sizeof whole) == 0, "format_block is encode_block, write_sector and close");
+
+    /* 8 rows of 372 bytes with wrong bits in each Code Word, and one bit in every 1,000 bytes */
+    for (i = 0; i < 8 * 372; i++) {
+        stream[372 * 54 + i] ^= (uint8_t)(i % 2 == 0 ? 0x10 : 0x81);
+    }
+    for (i = 500; i < sizeof stream; i += 1000) {
+        stream[i] ^= 0x08;
+    }
+    answer = chamanzil_read_block(stream, sizeof stream, read_block, sizeof read_block, read_main, sizeof read_main, report, CHAMANZIL_BLOCK_REPORT);
+    expect(answer == CHAMANZIL_DONE, "read_block");
+    expect(memcmp(read_main, main_data, sizeof main_data) == 0, "the main data read");
+    expect(report[0] == 0x030000, "the first number");
+
+    /* a refusal leaves everything as it was */
+    memset(read_main, 165, sizeof read_main);
+    answer = chamanzil_read_block(stream, sizeof stream - 1, read_block, sizeof read_block, read_main, sizeof read_main, report, CHAMANZIL_BLOCK_REPORT);
+    expect(answer == CHAMANZIL_LENGTH && read_main[0] == 165, "another length of stream");
+    expect(chamanzil_encode_block(main_data, sizeof main_data, 8, 0, block, sizeof block) == CHAMANZIL_NUMBER, "first number 8");
+
+    printf("block %06lX rows %lu %lu columns %lu %lu unknown %lu sync %lu: main data read back\n", (unsigned long)report[0], (unsigned long)report[1],
+        (unsigned long)report[2], (unsigned long)report[3], (unsigned long)report[4], (unsigned long)report[5], (unsigned long)report[6]);
+    return 0;
+}

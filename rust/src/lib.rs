@@ -1,0 +1,350 @@
+//! The 80 mm DVD channel (ECMA-268), from main data to code bits and back: a safe layer over the proved functions of `crates/ffi`.
+//!
+//! `rt staticlib ffi`, at the top of the repository, has to be run first: it proves the functions and builds the archive that this crate links.
+//! Each function below it is proved to answer and to write what its contract says, never to do anything undefined, and to return.
+//!
+//! ```
+//! use chamanzil::{format_block, read_block, MAIN};
+//! let main = [7; MAIN];
+//! let mut stream = format_block(&main, 0x03_0000, 0x00)?;
+//! stream[20_000..22_000].fill(0); // a scratch
+//! let read = read_block(&stream)?;
+//! assert_eq!(*read.main, main);
+//! assert_eq!(read.first, 0x03_0000);
+//! # Ok::<(), chamanzil::Refusal>(())
+//! ```
+mod raw;
+mod refusal;
+pub mod slices;
+mod words;
+
+use std::fmt;
+
+pub use refusal::Refusal;
+pub use words::{
+    column_parity, correct_column, correct_row, ied, power, product, read_word, row_parity,
+    runs_hold, Outcome,
+};
+
+/// Main data bytes of a block: 16 sectors of 2,048.
+pub const MAIN: usize = 32_768;
+/// Bytes of an ECC Block in recording order: 208 rows of 182.
+pub const BLOCK: usize = 37_856;
+/// Bytes of a sector of a block, before the channel: 13 rows.
+pub const SECTOR: usize = 2_366;
+/// Bytes of a sector of a stream: 26 Sync Frames of 186.
+pub const SECTOR_BITS: usize = 4_836;
+/// Bytes that the sector reader takes: a sector of a stream and the two bytes after it.
+pub const SECTOR_READ: usize = 4_838;
+/// Bytes of the closing code.
+pub const CLOSING: usize = 4;
+/// Bytes of a block's stream: 16 sectors and the closing code.
+pub const STREAM: usize = 77_380;
+
+/// A buffer of zeros on the heap.
+#[allow(clippy::unnecessary_box_returns)]
+fn room<const N: usize>() -> Box<[u8; N]> {
+    vec![0; N]
+        .into_boxed_slice()
+        .try_into()
+        .expect("the length is N")
+}
+
+/// The block maker (clauses 16 to 19): main data, the number of the first sector and the Sector Information byte to a block in recording order.
+///
+/// ```
+/// use chamanzil::{encode_block, Refusal, MAIN};
+/// let block = encode_block(&[0; MAIN], 0x03_0000, 0x00)?;
+/// assert_eq!(block[..6], [0x00, 0x03, 0x00, 0x00, 0x11, 0x12]); // ID and IED of the first frame
+/// assert_eq!(encode_block(&[0; MAIN], 0, 0x02), Err(Refusal::Information));
+/// # Ok::<(), Refusal>(())
+/// ```
+///
+/// # Errors
+/// 2 or 3.
+pub fn encode_block(main: &[u8; MAIN], first: u32, info: u8) -> Result<Box<[u8; BLOCK]>, Refusal> {
+    let mut out = room();
+    slices::encode_block(main, first, info, &mut out[..])?;
+    Ok(out)
+}
+
+/// The formatter: the block maker, then the writer from a new record. Sixteen sectors and the closing code.
+///
+/// ```
+/// use chamanzil::{format_block, Refusal, MAIN};
+/// assert_eq!(format_block(&[0; MAIN], 0x03_0000, 0x00)?.len(), 77_380);
+/// # Ok::<(), Refusal>(())
+/// ```
+///
+/// # Errors
+/// 2 or 3.
+pub fn format_block(main: &[u8; MAIN], first: u32, info: u8) -> Result<Box<[u8; STREAM]>, Refusal> {
+    let mut out = room();
+    slices::format_block(main, first, info, &mut out[..])?;
+    Ok(out)
+}
+
+/// The writer's record: the State prescribed next, the NRZI level, the DSV, the sectors written, and whether the closing code is written.
+#[derive(Clone, Copy, Debug, PartialEq, Eq, Hash)]
+pub struct Record {
+    /// 1 to 4.
+    pub state: u8,
+    /// 0 or 1.
+    pub level: u8,
+    /// The Digital Sum Value so far.
+    pub dsv: i64,
+    /// 0 to 16.
+    pub sectors: u32,
+    /// Whether the closing code is written.
+    pub closed: bool,
+}
+
+impl Record {
+    /// The record before the first sector.
+    #[must_use]
+    pub const fn new() -> Self {
+        Record {
+            state: 1,
+            level: 0,
+            dsv: 0,
+            sectors: 0,
+            closed: false,
+        }
+    }
+}
+
+impl Default for Record {
+    fn default() -> Self {
+        Self::new()
+    }
+}
+
+/// The writer (clause 22). A call takes it by value and hands back the next one; a refusal leaves the caller's own as it was.
+///
+/// ```
+/// use chamanzil::{encode_block, format_block, Refusal, Writer, CLOSING, MAIN, SECTOR, SECTOR_BITS};
+/// let block = encode_block(&[0; MAIN], 0, 0)?;
+/// let mut writer = Writer::new();
+/// let mut stream = Vec::new();
+/// for sector in block.chunks_exact(SECTOR) {
+///     let mut out = [0; SECTOR_BITS];
+///     writer = writer.write_sector(sector.try_into().unwrap(), &mut out)?;
+///     stream.extend_from_slice(&out);
+/// }
+/// let mut out = [0; CLOSING];
+/// writer = writer.close(&mut out)?;
+/// stream.extend_from_slice(&out);
+/// assert_eq!(stream, format_block(&[0; MAIN], 0, 0)?[..]);
+/// assert_eq!(writer.close(&mut out), Err(Refusal::RunEnded));
+/// # Ok::<(), Refusal>(())
+/// ```
+#[derive(Clone, Copy, Debug, Default, PartialEq, Eq, Hash)]
+pub struct Writer {
+    record: Record,
+}
+
+impl Writer {
+    /// At the start of a block.
+    ///
+    /// ```
+    /// assert_eq!(chamanzil::Writer::new().record(), chamanzil::Record::new());
+    /// ```
+    #[must_use]
+    pub const fn new() -> Self {
+        Writer {
+            record: Record::new(),
+        }
+    }
+
+    /// From a record that was kept. A record that no writer hands out is refused with number 9 by the next call.
+    ///
+    /// ```
+    /// use chamanzil::{Record, Refusal, Writer};
+    /// let writer = Writer::from_record(Record { state: 5, ..Record::new() });
+    /// assert_eq!(writer.close(&mut [0; 4]), Err(Refusal::Record));
+    /// ```
+    #[must_use]
+    pub const fn from_record(record: Record) -> Self {
+        Writer { record }
+    }
+
+    /// The record.
+    #[must_use]
+    pub const fn record(self) -> Record {
+        self.record
+    }
+
+    /// A sector of a block, by the two-stream rule.
+    ///
+    /// # Errors
+    /// 9 or 7, with `out` as it was.
+    pub fn write_sector(
+        self,
+        bytes: &[u8; SECTOR],
+        out: &mut [u8; SECTOR_BITS],
+    ) -> Result<Self, Refusal> {
+        let mut record = self.record;
+        slices::write_sector(&mut record, bytes, out)?;
+        Ok(Writer { record })
+    }
+
+    /// The closing code after the sixteenth sector.
+    ///
+    /// # Errors
+    /// 9, 7 or 8, with `out` as it was.
+    pub fn close(self, out: &mut [u8; CLOSING]) -> Result<Self, Refusal> {
+        let mut record = self.record;
+        slices::close(&mut record, out)?;
+        Ok(Writer { record })
+    }
+}
+
+/// What the sector reader reads.
+#[derive(Clone, Debug, PartialEq, Eq)]
+pub struct SectorRead {
+    /// The bytes of the sector, 0 for an unknown word.
+    pub bytes: Box<[u8; SECTOR]>,
+    /// Words that are in no table.
+    pub unknown: u32,
+    /// SYNC places that hold none of the codes due there.
+    pub sync: u32,
+}
+
+/// The sector reader: a sector of a stream and the two bytes after it.
+///
+/// ```
+/// use chamanzil::{encode_block, format_block, read_sector, MAIN, SECTOR, SECTOR_READ};
+/// let stream = format_block(&[0; MAIN], 0, 0)?;
+/// let read = read_sector(stream[..SECTOR_READ].try_into().unwrap());
+/// assert_eq!(read.bytes[..], encode_block(&[0; MAIN], 0, 0)?[..SECTOR]);
+/// assert_eq!((read.unknown, read.sync), (0, 0));
+/// # Ok::<(), chamanzil::Refusal>(())
+/// ```
+#[must_use]
+pub fn read_sector(stream: &[u8; SECTOR_READ]) -> SectorRead {
+    let mut bytes = room();
+    let mut report = [0; 2];
+    words::stated(slices::read_sector(stream, &mut bytes[..], &mut report));
+    let [unknown, sync] = report;
+    SectorRead {
+        bytes,
+        unknown,
+        sync,
+    }
+}
+
+/// How many rows or columns were no code words.
+#[derive(Clone, Copy, Debug, Default, PartialEq, Eq, Hash)]
+pub struct Tally {
+    /// Became the code word near them.
+    pub changed: u32,
+    /// Have no code word near enough.
+    pub past_help: u32,
+}
+
+/// What the block repairer hands out.
+#[derive(Clone, Debug, PartialEq, Eq)]
+pub struct Repaired {
+    /// The main data.
+    pub main: Box<[u8; MAIN]>,
+    /// The number of the first sector.
+    pub first: u32,
+    /// The rows as they came.
+    pub rows: Tally,
+    /// The columns as the rows' repair leaves them.
+    pub columns: Tally,
+}
+
+/// The block repairer. `block` is repaired in place, also where a frame is refused.
+///
+/// ```
+/// use chamanzil::{encode_block, repair_block, MAIN};
+/// let mut block = encode_block(&[1; MAIN], 16, 0)?;
+/// block[..5].fill(255);
+/// let repaired = repair_block(&mut block)?;
+/// assert_eq!(*repaired.main, [1; MAIN]);
+/// assert_eq!((repaired.first, repaired.rows.changed), (16, 1));
+/// # Ok::<(), chamanzil::Refusal>(())
+/// ```
+///
+/// # Errors
+/// 4, 5 or 6, with the first frame that fails.
+pub fn repair_block(block: &mut [u8; BLOCK]) -> Result<Repaired, Refusal> {
+    let mut main = room();
+    let mut report = [0; 6];
+    slices::repair_block(block, &mut main[..], &mut report)?;
+    let [first, changed, past_help, columns_changed, columns_past_help, _] = report;
+    Ok(Repaired {
+        main,
+        first,
+        rows: Tally { changed, past_help },
+        columns: Tally {
+            changed: columns_changed,
+            past_help: columns_past_help,
+        },
+    })
+}
+
+/// What the whole-block reader hands out. It prints as the bench sheet's line.
+#[derive(Clone, Debug, PartialEq, Eq)]
+pub struct BlockRead {
+    /// The main data.
+    pub main: Box<[u8; MAIN]>,
+    /// The number of the first sector.
+    pub first: u32,
+    /// The rows as they came.
+    pub rows: Tally,
+    /// The columns as the rows' repair leaves them.
+    pub columns: Tally,
+    /// Words that are in no table, of all sectors.
+    pub unknown: u32,
+    /// SYNC places that hold none of the codes due there, of all sectors.
+    pub sync: u32,
+}
+
+impl fmt::Display for BlockRead {
+    fn fmt(&self, f: &mut fmt::Formatter<'_>) -> fmt::Result {
+        write!(
+            f,
+            "block {:06X} rows {} {} columns {} {} unknown {} sync {}",
+            self.first,
+            self.rows.changed,
+            self.rows.past_help,
+            self.columns.changed,
+            self.columns.past_help,
+            self.unknown,
+            self.sync
+        )
+    }
+}
+
+/// The whole-block reader: sixteen sectors, then the repairer.
+///
+/// ```
+/// use chamanzil::{format_block, read_block, MAIN};
+/// let stream = format_block(&[0; MAIN], 0x03_0000, 0)?;
+/// let read = read_block(&stream)?;
+/// assert_eq!(read.to_string(), "block 030000 rows 0 0 columns 0 0 unknown 0 sync 0");
+/// # Ok::<(), chamanzil::Refusal>(())
+/// ```
+///
+/// # Errors
+/// 4, 5 or 6, with the first frame that fails.
+pub fn read_block(stream: &[u8; STREAM]) -> Result<BlockRead, Refusal> {
+    let mut block = room::<BLOCK>();
+    let mut main = room();
+    let mut report = [0; 8];
+    slices::read_block(stream, &mut block[..], &mut main[..], &mut report)?;
+    let [first, changed, past_help, columns_changed, columns_past_help, unknown, sync, _] = report;
+    Ok(BlockRead {
+        main,
+        first,
+        rows: Tally { changed, past_help },
+        columns: Tally {
+            changed: columns_changed,
+            past_help: columns_past_help,
+        },
+        unknown,
+        sync,
+    })
+}

@@ -1,0 +1,85 @@
+//! The C boundary, declared as `crates/ffi/src` has it: a slice is a pointer and a length.
+
+extern "C" {
+    pub fn chamanzil_product(a: u8, b: u8) -> u8;
+    pub fn chamanzil_power(a: u8, n: u64) -> u8;
+    pub fn chamanzil_ied(id: *const u8, id_len: usize, out: *mut u8, out_len: usize) -> u32;
+    pub fn chamanzil_row_parity(
+        word: *const u8,
+        word_len: usize,
+        out: *mut u8,
+        out_len: usize,
+    ) -> u32;
+    pub fn chamanzil_column_parity(
+        word: *const u8,
+        word_len: usize,
+        out: *mut u8,
+        out_len: usize,
+    ) -> u32;
+    pub fn chamanzil_correct_row(row: *mut u8, row_len: usize) -> u32;
+    pub fn chamanzil_correct_column(column: *mut u8, column_len: usize) -> u32;
+    pub fn chamanzil_read_word(word: u16, following: u16) -> u32;
+    pub fn chamanzil_runs_hold(stream: *const u8, stream_len: usize) -> u32;
+    pub fn chamanzil_encode_block(
+        main: *const u8,
+        main_len: usize,
+        first: u32,
+        info: u8,
+        out: *mut u8,
+        out_len: usize,
+    ) -> u32;
+    pub fn chamanzil_format_block(
+        main: *const u8,
+        main_len: usize,
+        first: u32,
+        info: u8,
+        out: *mut u8,
+        out_len: usize,
+    ) -> u32;
+    pub fn chamanzil_write_sector(
+        state: *mut u8,
+        level: *mut u8,
+        dsv: *mut i64,
+        sectors: *mut u32,
+        closed: *mut bool,
+        bytes: *const u8,
+        bytes_len: usize,
+        out: *mut u8,
+        out_len: usize,
+    ) -> u32;
+    pub fn chamanzil_close(
+        state: *mut u8,
+        level: *mut u8,
+        dsv: *mut i64,
+        sectors: *mut u32,
+        closed: *mut bool,
+        out: *mut u8,
+        out_len: usize,
+    ) -> u32;
+    pub fn chamanzil_read_sector(
+        stream: *const u8,
+        stream_len: usize,
+        out: *mut u8,
+        out_len: usize,
+        report: *mut u32,
+        report_len: usize,
+    ) -> u32;
+    pub fn chamanzil_repair_block(
+        block: *mut u8,
+        block_len: usize,
+        main: *mut u8,
+        main_len: usize,
+        report: *mut u32,
+        report_len: usize,
+    ) -> u32;
+    pub fn chamanzil_read_block(
+        stream: *const u8,
+        stream_len: usize,
+        block: *mut u8,
+        block_len: usize,
+        main: *mut u8,
+        main_len: usize,
+        report: *mut u32,
+        report_len: usize,
+    ) -> u32;
+}

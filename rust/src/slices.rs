@@ -1,0 +1,196 @@
+//! The same calls on slices: a slice of another length than stated is refused with number 1, and everything is left as it was.
+//!
+//! ```
+//! use chamanzil::{slices, Refusal, BLOCK, MAIN};
+//! let (main, mut block) = (vec![0; MAIN], vec![165; BLOCK]);
+//! assert_eq!(slices::encode_block(&main[1..], 0, 0, &mut block), Err(Refusal::Length));
+//! assert_eq!(block, vec![165; BLOCK]);
+//! assert_eq!(slices::encode_block(&main, 0, 0, &mut block), Ok(()));
+//! ```
+use crate::raw;
+use crate::refusal::answer;
+use crate::{Record, Refusal};
+
+/// The block maker: 32,768 main data bytes to a block of 37,856.
+///
+/// # Errors
+/// 1, 2 or 3, with `out` as it was.
+pub fn encode_block(main: &[u8], first: u32, info: u8, out: &mut [u8]) -> Result<(), Refusal> {
+    let (to, size) = (out.as_mut_ptr(), out.len());
+    let number =
+        unsafe { raw::chamanzil_encode_block(main.as_ptr(), main.len(), first, info, to, size) };
+    answer(number, 0)
+}
+
+/// The formatter: 32,768 main data bytes to a stream of 77,380.
+///
+/// # Errors
+/// 1, 2 or 3, with `out` as it was.
+pub fn format_block(main: &[u8], first: u32, info: u8, out: &mut [u8]) -> Result<(), Refusal> {
+    let (to, size) = (out.as_mut_ptr(), out.len());
+    let number =
+        unsafe { raw::chamanzil_format_block(main.as_ptr(), main.len(), first, info, to, size) };
+    answer(number, 0)
+}
+
+/// The writer's sector: 2,366 bytes to 4,836. `record` becomes the next one.
+///
+/// # Errors
+/// 1, 9 or 7, with `record` and `out` as they were.
+pub fn write_sector(record: &mut Record, bytes: &[u8], out: &mut [u8]) -> Result<(), Refusal> {
+    let r = record;
+    let number = unsafe {
+        raw::chamanzil_write_sector(
+            &mut r.state,
+            &mut r.level,
+            &mut r.dsv,
+            &mut r.sectors,
+            &mut r.closed,
+            bytes.as_ptr(),
+            bytes.len(),
+            out.as_mut_ptr(),
+            out.len(),
+        )
+    };
+    answer(number, 0)
+}
+
+/// The closing code, 4 bytes. `record` becomes the next one.
+///
+/// # Errors
+/// 1, 9, 7 or 8, with `record` and `out` as they were.
+pub fn close(record: &mut Record, out: &mut [u8]) -> Result<(), Refusal> {
+    let r = record;
+    let number = unsafe {
+        raw::chamanzil_close(
+            &mut r.state,
+            &mut r.level,
+            &mut r.dsv,
+            &mut r.sectors,
+            &mut r.closed,
+            out.as_mut_ptr(),
+            out.len(),
+        )
+    };
+    answer(number, 0)
+}
+
+/// The sector reader: 4,838 bytes of stream to 2,366. `report` has two numbers: unknown words, and SYNC places that hold no code due there.
+///
+/// # Errors
+/// 1, with `out` and `report` as they were.
+pub fn read_sector(stream: &[u8], out: &mut [u8], report: &mut [u32]) -> Result<(), Refusal> {
+    let (to, size) = (out.as_mut_ptr(), out.len());
+    let number = unsafe {
+        raw::chamanzil_read_sector(
+            stream.as_ptr(),
+            stream.len(),
+            to,
+            size,
+            report.as_mut_ptr(),
+            report.len(),
+        )
+    };
+    answer(number, 0)
+}
+
+/// The block repairer: a block of 37,856 bytes, repaired in place, to 32,768 main data bytes. `report` has six numbers: the first number, rows changed and past
+/// help, columns changed and past help, and the frame refused.
+///
+/// # Errors
+/// 1, with everything as it was; 4, 5 or 6, with `main` as it was and `block` repaired.
+pub fn repair_block(block: &mut [u8], main: &mut [u8], report: &mut [u32]) -> Result<(), Refusal> {
+    let (b, m) = (block.as_mut_ptr(), main.as_mut_ptr());
+    let number = unsafe {
+        raw::chamanzil_repair_block(
+            b,
+            block.len(),
+            m,
+            main.len(),
+            report.as_mut_ptr(),
+            report.len(),
+        )
+    };
+    answer(number, report.last().copied().unwrap_or(0))
+}
+
+/// The whole-block reader: 77,380 bytes of stream to a block of 37,856, as the repairer leaves it, and 32,768 main data bytes. `report` has eight numbers: the
+/// repairer's, with the sums of the two sector tallies before the frame.
+///
+/// # Errors
+/// 1, with everything as it was; 4, 5 or 6, with `main` as it was and `block` read and repaired.
+pub fn read_block(
+    stream: &[u8],
+    block: &mut [u8],
+    main: &mut [u8],
+    report: &mut [u32],
+) -> Result<(), Refusal> {
+    let (b, m, r) = (block.as_mut_ptr(), main.as_mut_ptr(), report.as_mut_ptr());
+    let number = unsafe {
+        raw::chamanzil_read_block(
+            stream.as_ptr(),
+            stream.len(),
+            b,
+            block.len(),
+            m,
+            main.len(),
+            r,
+            report.len(),
+        )
+    };
+    answer(number, report.last().copied().unwrap_or(0))
+}
+
+/// The 10 parity bytes of a row of 172.
+///
+/// # Errors
+/// 1, with `out` as it was.
+pub fn row_parity(word: &[u8], out: &mut [u8]) -> Result<(), Refusal> {
+    let (to, size) = (out.as_mut_ptr(), out.len());
+    answer(
+        unsafe { raw::chamanzil_row_parity(word.as_ptr(), word.len(), to, size) },
+        0,
+    )
+}
+
+/// The 16 parity bytes of a column of 192.
+///
+/// # Errors
+/// 1, with `out` as it was.
+pub fn column_parity(word: &[u8], out: &mut [u8]) -> Result<(), Refusal> {
+    let (to, size) = (out.as_mut_ptr(), out.len());
+    answer(
+        unsafe { raw::chamanzil_column_parity(word.as_ptr(), word.len(), to, size) },
+        0,
+    )
+}
+
+/// The 2 bytes of IED of an ID of 4.
+///
+/// # Errors
+/// 1, with `out` as it was.
+pub fn ied(id: &[u8], out: &mut [u8]) -> Result<(), Refusal> {
+    let (to, size) = (out.as_mut_ptr(), out.len());
+    answer(
+        unsafe { raw::chamanzil_ied(id.as_ptr(), id.len(), to, size) },
+        0,
+    )
+}
+
+/// The repair of a row of 182 bytes, in place.
+///
+/// # Errors
+/// 1, with `row` as it was.
+pub fn correct_row(row: &mut [u8]) -> Result<crate::Outcome, Refusal> {
+    crate::words::outcome(unsafe { raw::chamanzil_correct_row(row.as_mut_ptr(), row.len()) })
+}
+
+/// The repair of a column of 208 bytes, in place.
+///
+/// # Errors
+/// 1, with `column` as it was.
+pub fn correct_column(column: &mut [u8]) -> Result<crate::Outcome, Refusal> {
+    crate::words::outcome(unsafe {
+        raw::chamanzil_correct_column(column.as_mut_ptr(), column.len())
+    })
+}

@@ -1,0 +1,136 @@
+use crate::refusal::answer;
+use crate::{raw, slices, Refusal};
+
+/// What became of a row or a column.
+#[derive(Clone, Copy, Debug, PartialEq, Eq, Hash)]
+pub enum Outcome {
+    /// It was a code word.
+    Clean,
+    /// It became the code word near it.
+    Corrected,
+    /// There is none near enough, and it stays.
+    Uncorrectable,
+}
+
+pub(crate) fn outcome(number: u32) -> Result<Outcome, Refusal> {
+    match number {
+        16 => Ok(Outcome::Corrected),
+        17 => Ok(Outcome::Uncorrectable),
+        other => answer(other, 0).map(|()| Outcome::Clean),
+    }
+}
+
+/// The answer of a call whose lengths the types fix.
+pub(crate) fn stated<T>(result: Result<T, Refusal>) -> T {
+    result.expect("the lengths are those stated")
+}
+
+/// The 10 parity bytes of a row (roots α⁰ to α⁹).
+///
+/// ```
+/// assert_eq!(chamanzil::row_parity(&[0; 172]), [0; 10]);
+/// ```
+#[must_use]
+pub fn row_parity(word: &[u8; 172]) -> [u8; 10] {
+    let mut out = [0; 10];
+    stated(slices::row_parity(word, &mut out));
+    out
+}
+
+/// The 16 parity bytes of a column (roots α⁰ to α¹⁵).
+///
+/// ```
+/// assert_eq!(chamanzil::column_parity(&[0; 192]), [0; 16]);
+/// ```
+#[must_use]
+pub fn column_parity(word: &[u8; 192]) -> [u8; 16] {
+    let mut out = [0; 16];
+    stated(slices::column_parity(word, &mut out));
+    out
+}
+
+/// The IED of an ID.
+///
+/// ```
+/// assert_eq!(chamanzil::ied(&[0x00, 0x03, 0x00, 0x00]), [0x11, 0x12]);
+/// ```
+#[must_use]
+pub fn ied(id: &[u8; 4]) -> [u8; 2] {
+    let mut out = [0; 2];
+    stated(slices::ied(id, &mut out));
+    out
+}
+
+/// A row becomes the one code row within five bytes, or stays.
+///
+/// ```
+/// use chamanzil::{correct_row, Outcome};
+/// let mut row = [0; 182];
+/// row[..5].fill(9);
+/// assert_eq!(correct_row(&mut row), Outcome::Corrected);
+/// assert_eq!(row, [0; 182]);
+/// assert_eq!(correct_row(&mut row), Outcome::Clean);
+/// ```
+pub fn correct_row(row: &mut [u8; 182]) -> Outcome {
+    stated(slices::correct_row(row))
+}
+
+/// A column becomes the one code column within eight bytes, or stays.
+///
+/// ```
+/// use chamanzil::{correct_column, Outcome};
+/// let mut column = [0; 208];
+/// column[..8].fill(9);
+/// assert_eq!(correct_column(&mut column), Outcome::Corrected);
+/// assert_eq!(column, [0; 208]);
+/// ```
+pub fn correct_column(column: &mut [u8; 208]) -> Outcome {
+    stated(slices::correct_column(column))
+}
+
+/// The byte that a Code Word stands for where the 16 bits `following` come after it, if it is in the tables.
+///
+/// ```
+/// // 207 and 215 in State 1 are the same word with next State 2 and 3, told apart by bits 15 and 3 of what follows.
+/// assert_eq!(chamanzil::read_word(0b0000_0100_1000_1000, 0x0000), Some(207));
+/// assert_eq!(chamanzil::read_word(0b0000_0100_1000_1000, 0x8000), Some(215));
+/// assert_eq!(chamanzil::read_word(0xFFFF, 0x0000), None);
+/// ```
+#[must_use]
+pub fn read_word(word: u16, following: u16) -> Option<u8> {
+    u8::try_from(unsafe { raw::chamanzil_read_word(word, following) }).ok()
+}
+
+/// Whether a stream is no longer than a block's and has the runs of ZEROs that a block may have.
+///
+/// ```
+/// let stream = chamanzil::format_block(&[0; chamanzil::MAIN], 0, 0)?;
+/// assert!(chamanzil::runs_hold(&stream[..]));
+/// assert!(!chamanzil::runs_hold(&[0xFF, 0xFF]));
+/// # Ok::<(), chamanzil::Refusal>(())
+/// ```
+#[must_use]
+pub fn runs_hold(stream: &[u8]) -> bool {
+    unsafe { raw::chamanzil_runs_hold(stream.as_ptr(), stream.len()) == 1 }
+}
+
+/// The product of two elements of the field of 256, x⁸ + x⁴ + x³ + x² + 1.
+///
+/// ```
+/// assert_eq!(chamanzil::product(0x80, 2), 0x1D);
+/// ```
+#[must_use]
+pub fn product(a: u8, b: u8) -> u8 {
+    unsafe { raw::chamanzil_product(a, b) }
+}
+
+/// An element to a power.
+///
+/// ```
+/// assert_eq!(chamanzil::power(2, 8), 0x1D);
+/// assert_eq!(chamanzil::power(2, 255), 1);
+/// ```
+#[must_use]
+pub fn power(a: u8, n: u64) -> u8 {
+    unsafe { raw::chamanzil_power(a, n) }
+}

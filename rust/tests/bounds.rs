@@ -1,0 +1,312 @@
+//! No call touches a byte outside what it was lent: every length from 0 to a bit past the stated one, and random bytes and records, with guard bytes around each
+//! buffer. `CHAMANZIL_EXACT=1` leaves the guards out, so that memcheck sees each byte outside a heap block; `CHAMANZIL_STRIDE=n` takes every n-th length.
+mod common;
+
+use chamanzil::slices;
+use chamanzil::{Record, Refusal};
+use chamanzil::{BLOCK, CLOSING, MAIN, SECTOR, SECTOR_BITS, SECTOR_READ, STREAM};
+use common::Numbers;
+use std::env;
+use std::fmt::Debug;
+
+fn guard() -> usize {
+    if env::var_os("CHAMANZIL_EXACT").is_some() {
+        0
+    } else {
+        64
+    }
+}
+
+fn stride() -> usize {
+    env::var("CHAMANZIL_STRIDE").map_or(1, |n| n.parse().unwrap())
+}
+
+/// A buffer that starts as the first bytes of a pattern, with guards before and after it, in a heap block of just that size.
+struct Buffer<T> {
+    all: Vec<T>,
+    guard: usize,
+    mark: T,
+}
+
+impl<T: Copy + PartialEq + Debug> Buffer<T> {
+    fn new(pattern: &[T], len: usize, mark: T) -> Self {
+        let guard = guard();
+        let mut all = vec![mark; len + 2 * guard];
+        all.shrink_to_fit();
+        all[guard..guard + len].copy_from_slice(&pattern[..len]);
+        Buffer { all, guard, mark }
+    }
+
+    fn lend(&mut self) -> &mut [T] {
+        let end = self.all.len() - self.guard;
+        &mut self.all[self.guard..end]
+    }
+
+    fn guards_hold(&self) {
+        let end = self.all.len() - self.guard;
+        assert!(
+            self.all[..self.guard].iter().all(|x| *x == self.mark),
+            "before the buffer"
+        );
+        assert!(
+            self.all[end..].iter().all(|x| *x == self.mark),
+            "after the buffer"
+        );
+    }
+
+    fn is_as_it_was(&mut self, pattern: &[T]) {
+        self.guards_hold();
+        let held = self.lend();
+        let len = held.len();
+        assert!(
+            held == &pattern[..len],
+            "{len} bytes, changed by a refused call"
+        );
+    }
+}
+
+/// Every length but the stated one, to three past it.
+fn lengths(stated: usize) -> impl Iterator<Item = usize> {
+    let step = stride();
+    (0..stated + 4).filter(move |n| *n != stated && (n % step == 0 || *n < 20 || n + 20 > stated))
+}
+
+/// Calls with one buffer of another length: all are refused with 1, and leave everything.
+fn sweep(stated: &[usize], mut call: impl FnMut(&mut [Buffer<u8>]) -> Result<(), Refusal>) {
+    let pattern = Numbers::new(1).bytes(STREAM + 8);
+    let made = |n: &usize| Buffer::new(&pattern, *n, 0xA5);
+    let mut buffers: Vec<_> = stated.iter().map(made).collect();
+    for which in 0..stated.len() {
+        for n in lengths(stated[which]) {
+            buffers[which] = made(&n);
+            assert_eq!(
+                call(&mut buffers),
+                Err(Refusal::Length),
+                "buffer {which}, length {n}"
+            );
+            for buffer in &mut buffers {
+                buffer.is_as_it_was(&pattern);
+            }
+        }
+        buffers[which] = made(&stated[which]);
+    }
+}
+
+/// The same of a report.
+fn sweep_report(stated: usize, mut call: impl FnMut(&mut [u32]) -> Result<(), Refusal>) {
+    let pattern: Vec<u32> = (100..200).collect();
+    for n in (0..40).filter(|n| *n != stated) {
+        let mut report = Buffer::new(&pattern, n, 0xA5A5_A5A5);
+        assert_eq!(
+            call(report.lend()),
+            Err(Refusal::Length),
+            "report, length {n}"
+        );
+        report.is_as_it_was(&pattern);
+    }
+}
+
+/// Calls with every length as stated and other bytes each time.
+fn rounds(
+    count: usize,
+    stated: &[usize],
+    mut call: impl FnMut(&mut [Buffer<u8>], &mut [u32], &mut Numbers),
+) {
+    let mut numbers = Numbers::new(2);
+    let most = stated.iter().copied().max().unwrap_or(0);
+    for _ in 0..count {
+        let pattern = numbers.bytes(most);
+        let mut buffers: Vec<_> = stated
+            .iter()
+            .map(|n| Buffer::new(&pattern, *n, 0xA5))
+            .collect();
+        let mut report = Buffer::new(&[9; 8], 8, 0xA5A5_A5A5);
+        call(&mut buffers, report.lend(), &mut numbers);
+        buffers.iter().for_each(Buffer::guards_hold);
+        report.guards_hold();
+    }
+}
+
+#[test]
+fn encode_and_format() {
+    let sizes = [MAIN, BLOCK];
+    sweep(&sizes, |b| {
+        let [main, out] = b else { unreachable!() };
+        slices::encode_block(main.lend(), 16, 0, out.lend())
+    });
+    let sizes = [MAIN, STREAM];
+    sweep(&sizes, |b| {
+        let [main, out] = b else { unreachable!() };
+        slices::format_block(main.lend(), 16, 0, out.lend())
+    });
+    rounds(10, &[MAIN, BLOCK, STREAM], |b, _, numbers| {
+        let [main, block, stream] = b else {
+            unreachable!()
+        };
+        let first = u32::try_from(numbers.next() & 0x01FF_FFF8).unwrap();
+        let info = numbers.byte() & 0x3D;
+        let answer = slices::encode_block(main.lend(), first, info, block.lend());
+        assert_eq!(
+            slices::format_block(main.lend(), first, info, stream.lend()),
+            answer
+        );
+    });
+}
+
+#[test]
+fn read_sector() {
+    let mut two = [0; 2];
+    sweep(&[SECTOR_READ, SECTOR], |b| {
+        let [stream, out] = b else { unreachable!() };
+        slices::read_sector(stream.lend(), out.lend(), &mut two)
+    });
+    let (stream, mut out) = ([0; SECTOR_READ], [0; SECTOR]);
+    sweep_report(2, |report| slices::read_sector(&stream, &mut out, report));
+    rounds(100, &[SECTOR_READ, SECTOR], |b, report, _| {
+        let [stream, out] = b else { unreachable!() };
+        slices::read_sector(stream.lend(), out.lend(), &mut report[..2]).unwrap();
+    });
+}
+
+#[test]
+fn repair_block() {
+    let mut six = [0; 6];
+    sweep(&[BLOCK, MAIN], |b| {
+        let [block, main] = b else { unreachable!() };
+        slices::repair_block(block.lend(), main.lend(), &mut six)
+    });
+    let (mut block, mut main) = (vec![0; BLOCK], vec![0; MAIN]);
+    sweep_report(6, |report| {
+        slices::repair_block(&mut block, &mut main, report)
+    });
+    rounds(3, &[BLOCK, MAIN], |b, report, _| {
+        let [block, main] = b else { unreachable!() };
+        assert!(slices::repair_block(block.lend(), main.lend(), &mut report[..6]).is_err());
+    });
+}
+
+#[test]
+fn read_block() {
+    let mut eight = [0; 8];
+    sweep(&[STREAM, BLOCK, MAIN], |b| {
+        let [stream, block, main] = b else {
+            unreachable!()
+        };
+        slices::read_block(stream.lend(), block.lend(), main.lend(), &mut eight)
+    });
+    let (stream, mut block, mut main) = (vec![0; STREAM], vec![0; BLOCK], vec![0; MAIN]);
+    sweep_report(8, |report| {
+        slices::read_block(&stream, &mut block, &mut main, report)
+    });
+    rounds(3, &[STREAM, BLOCK, MAIN], |b, report, _| {
+        let [stream, block, main] = b else {
+            unreachable!()
+        };
+        assert!(slices::read_block(stream.lend(), block.lend(), main.lend(), report).is_err());
+    });
+}
+
+#[test]
+fn rows_columns_and_words() {
+    sweep(&[172, 10], |b| {
+        let [word, out] = b else { unreachable!() };
+        slices::row_parity(word.lend(), out.lend())
+    });
+    sweep(&[192, 16], |b| {
+        let [word, out] = b else { unreachable!() };
+        slices::column_parity(word.lend(), out.lend())
+    });
+    sweep(&[4, 2], |b| {
+        let [id, out] = b else { unreachable!() };
+        slices::ied(id.lend(), out.lend())
+    });
+    sweep(&[182], |b| slices::correct_row(b[0].lend()).map(|_| ()));
+    sweep(&[208], |b| slices::correct_column(b[0].lend()).map(|_| ()));
+    rounds(200, &[172, 10, 192, 16, 4, 2, 182, 208], |b, _, numbers| {
+        let [row, ten, column, sixteen, id, two, whole_row, whole_column] = b else {
+            unreachable!()
+        };
+        slices::row_parity(row.lend(), ten.lend()).unwrap();
+        slices::column_parity(column.lend(), sixteen.lend()).unwrap();
+        slices::ied(id.lend(), two.lend()).unwrap();
+        slices::correct_row(whole_row.lend()).unwrap();
+        slices::correct_column(whole_column.lend()).unwrap();
+        let [a, b, c, d, ..] = numbers.next().to_le_bytes();
+        let _ = chamanzil::read_word(u16::from_le_bytes([a, b]), u16::from_le_bytes([c, d]));
+    });
+    let pattern = Numbers::new(3).bytes(STREAM + 8);
+    for n in lengths(STREAM).step_by(997).chain([STREAM]) {
+        let mut stream = Buffer::new(&pattern, n, 0xA5);
+        let _ = chamanzil::runs_hold(stream.lend());
+        stream.is_as_it_was(&pattern);
+    }
+}
+
+/// Document 01's numbers 9, 7 and 8 for a sector and for closing, from the record alone.
+fn due(r: Record) -> (u8, u8) {
+    let limit = 38_688 * i128::from(r.sectors) + if r.closed { 32 } else { 0 };
+    let sound = (1..=4).contains(&r.state)
+        && r.level <= 1
+        && r.sectors <= 16
+        && !(r.closed && r.sectors < 16)
+        && i128::from(r.dsv).abs() <= limit;
+    match (sound, r.closed, r.sectors >= 16) {
+        (false, _, _) => (9, 9),
+        (true, true, _) => (7, 7),
+        (true, false, true) => (7, 0),
+        (true, false, false) => (0, 8),
+    }
+}
+
+fn any_record(numbers: &mut Numbers) -> Record {
+    let sectors = u32::try_from(numbers.below(18)).unwrap();
+    let edge = 38_688 * i64::from(sectors);
+    let dsv = match numbers.below(6) {
+        0 => 0,
+        1 => edge - 2 + i64::try_from(numbers.below(40)).unwrap(),
+        2 => -edge + 2 - i64::try_from(numbers.below(40)).unwrap(),
+        3 => i64::from_le_bytes(numbers.next().to_le_bytes()),
+        4 => [i64::MIN, i64::MAX][numbers.below(2)],
+        _ => i64::try_from(numbers.below(400)).unwrap() - 200,
+    };
+    Record {
+        state: [1, 2, 3, 4, 0, 5, 255][numbers.below(7)],
+        level: [0, 1, 0, 1, 2, 255][numbers.below(6)],
+        dsv,
+        sectors: if numbers.below(20) == 0 {
+            u32::MAX
+        } else {
+            sectors
+        },
+        closed: numbers.below(4) == 0,
+    }
+}
+
+#[test]
+fn records() {
+    let mut record = Record::new();
+    sweep(&[SECTOR, SECTOR_BITS], |b| {
+        let [bytes, out] = b else { unreachable!() };
+        slices::write_sector(&mut record, bytes.lend(), out.lend())
+    });
+    sweep(&[CLOSING], |b| slices::close(&mut record, b[0].lend()));
+    assert_eq!(record, Record::new());
+    rounds(
+        if stride() == 1 { 3000 } else { 100 },
+        &[SECTOR, SECTOR_BITS, CLOSING],
+        |b, _, numbers| {
+            let [bytes, out, four] = b else {
+                unreachable!()
+            };
+            let old = any_record(numbers);
+            let (mut written, mut closed) = (old, old);
+            let sector = slices::write_sector(&mut written, bytes.lend(), out.lend())
+                .map_or_else(Refusal::number, |()| 0);
+            let closing =
+                slices::close(&mut closed, four.lend()).map_or_else(Refusal::number, |()| 0);
+            assert_eq!((sector, closing), due(old), "{old:?}");
+            assert!(written == old || (sector == 0 && written.sectors == old.sectors + 1));
+            assert!(closed == old || (closing == 0 && closed.closed));
+        },
+    );
+}
