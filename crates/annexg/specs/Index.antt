@@ -6,6 +6,8 @@ use Prim.Native.Nat.{ℕ, zero, suc, _+_, _*_, _/_, _%_}
 use lib.ListN.{getD, set, length, replicate}
 use Rattle.lists.specs.Count.{bit}
 use Rattle.annexg.specs.Read.{tableOf, agrees}
+use Rattle.annexg.specs.declared.Reading.{Reading}
+use Rattle.annexg.specs.declared.Reading.the-variants.{Byte, Unknown}
 
 -- the place of a word among 4,096: no two Code Words of annex G have one (proofs/Index.antt)
 unfoldable pub placeOf : ℕ → ℕ
@@ -37,3 +39,8 @@ putAll es xs = putFirst es (length es) xs
 -- the index: the entries of both tables, and 0 in each slot that none takes
 unfoldable pub wordIndex : List ℕ
 wordIndex = putAll (tableOf 1) (putAll (tableOf 0) (replicate 8192 0))
+
+-- a reading as a number: twice the byte, or 1 for an unknown word
+abbrev pub readingNumber : Reading → ℕ
+readingNumber (Byte b) = b * 2
+readingNumber Unknown = 1

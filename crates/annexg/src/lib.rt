@@ -7,7 +7,7 @@ ghost use Prim.Native.Nat.{ℕ, _*_, _-_, _/_, _<_, _≤_};
 ghost use lib.ListN.{length, getD};
 ghost use Rattle.lists.specs.Count.{bit};
 ghost use Rattle.annexg.specs.Read.{tableOf, entryOf, wordOf, nextOf, bothZero, agrees, fitsOf, readWord};
-ghost use Rattle.annexg.specs.Index.{slotOf, putOne, putEntry, putAll, wordIndex};
+ghost use Rattle.annexg.specs.Index.{slotOf, putOne, putEntry, putAll, wordIndex, readingNumber};
 ghost use Rattle.annexg.specs.Sync.{syncTable, codeFor};
 
 // What a Code Word is read as.
@@ -213,15 +213,26 @@ pub fn word_index(m: &[u32; 1024], u: &[u32; 352]) -> [u32; 8192]
     x
 }
 
+// A reading as a number: twice the byte, or 1 for an unknown word.
+fn number_of(r: Reading) -> u32
+    ensures { λ n. ⌜ (n ≡ readingNumber r) × (n ≤ 510) ⌝ }
+{
+    match r {
+        Reading::Byte(b) => (b as u32) * 2,
+        Reading::Unknown => 1,
+    }
+}
+
 // What the word w is read as where the half word f follows: what its slot holds, or, for a word that the index does not have, what the search finds.
-pub fn read_indexed(m: &[u32; 1024], u: &[u32; 352], x: &[u32; 8192], w: u16, f: u16) -> Reading
+// The answer is a number because that stays in a register; the enum would go through memory, word by word.
+pub fn read_indexed(m: &[u32; 1024], u: &[u32; 352], x: &[u32; 8192], w: u16, f: u16) -> u32
     requires { ⌜ (now m ≡ tableOf 0) × (now u ≡ tableOf 1) × (now x ≡ wordIndex) ⌝ }
-    ensures { λ r. ⌜ r ≡ readWord w f ⌝ }
+    ensures { λ r. ⌜ (r ≡ readingNumber (readWord w f)) × (r ≤ 510) ⌝ }
 {
     let at = slot_of(w as u32, both_zero(f));
     let v = x[at];
     if v / 256 == 65536 + w as u32 {
-        return Reading::Byte((v % 256) as u8);
+        return v % 256 * 2;
     }
-    read_with(m, u, w, f)
+    number_of(read_with(m, u, w, f))
 }

@@ -7,9 +7,8 @@ ghost use Rattle.lists.specs.Count.{bit};
 ghost use Rattle.annexg.specs.Read.{tableOf};
 ghost use Rattle.annexg.specs.Index.{wordIndex};
 ghost use Rattle.annexg.specs.Sync.{syncTable};
-ghost use Rattle.channel.specs.Block.{frameCodes, codeOf, byteOf, halfAt, readSector};
-ghost use Rattle.reader.specs.Sector.{isUnknown, isSync, lostSync, unknownTally, syncTally, sectorAnswer, sectorAfter, sectorNumber};
-use annexg::Reading;
+ghost use Rattle.channel.specs.Block.{frameCodes, codeOf, halfAt, readSector};
+ghost use Rattle.reader.specs.Sector.{isSync, lostSync, unknownTally, syncTally, sectorAnswer, sectorAfter, sectorNumber};
 
 // What the sector reader answers. Document 01's number of each is `sectorNumber`.
 pub enum SectorRead {
@@ -32,26 +31,6 @@ fn half(stream: &[u8], k: usize) -> u16
 
 // ---- the words
 
-// An unknown word gives byte 0.
-fn byte_of(r: Reading) -> u8
-    ensures { λ b. ⌜ b ≡ byteOf r ⌝ }
-{
-    match r {
-        Reading::Byte(b) => b,
-        Reading::Unknown => 0,
-    }
-}
-
-// What a word adds to the tally.
-fn unknown_of(r: Reading) -> u32
-    ensures { λ n. ⌜ (n ≡ bit (isUnknown r)) × (n ≤ 1) ⌝ }
-{
-    match r {
-        Reading::Byte(_) => 0,
-        Reading::Unknown => 1,
-    }
-}
-
 // Every word is judged with the half word after it: for the last word of a frame that is a SYNC Code's, and for the sector's last word the two bytes after the sector.
 fn read_bytes(
     m: &[u32; 1024],
@@ -71,8 +50,8 @@ fn read_bytes(
         let w = half(stream, k);
         let f = half(stream, k + 1);
         let r = annexg::read_indexed(m, u, x, w, f);
-        out[i] = byte_of(r);
-        unknown += unknown_of(r);
+        out[i] = (r / 2) as u8;
+        unknown += r % 2;
         i += 1;
     }
     unknown

@@ -3,7 +3,7 @@ use mathlib.Core.Path.{_≡_, refl, sym, ap, ap₂, _∙_}
 use Prim.Native.Nat.{ℕ, _+_, _*_, _-_, _/_, _<_, _≤_}
 use native.Mathlib.Omega.{arith}
 use lib.ListN.{length}
-use Rattle.lists.specs.Count.{bit, countFrom}
+use Rattle.lists.specs.Count.{countFrom}
 use Rattle.lists.proofs.Count.{count-le, count-snoc}
 use Rattle.lists.proofs.Fill.{Upto, upto-none, upto-more, upto-all}
 use Rattle.channel.specs.Block.{halfOf, halfAt, readAt}
@@ -45,21 +45,18 @@ read-indexed-requires c κs =
     let s = c .before .before .before .before .before .before in
     (s .pre .0, s .pre .1, s .pre .2)
 
-byte-of-requires : tie.Need-byte-of-requires Inv-loop μ-loop
-byte-of-requires c κs = search needs
+cast-out : tie.Need-cast-out Inv-loop μ-loop
+cast-out c = omega (arith, c .read-indexed .ensures .1)
 
 slice-write-out : tie.Need-slice-write-out Inv-loop μ-loop
 slice-write-out c =
-    let l = c .before .before .before .before .before in
+    let l = c .before .before .before .before in
     omega (arith, l .loop .inv .1 .same, l .before .before .before .pre .4)
-
-unknown-of-requires : tie.Need-unknown-of-requires Inv-loop μ-loop
-unknown-of-requires c κs = search needs
 
 add-unknown : tie.Need-add-unknown Inv-loop μ-loop
 add-unknown c =
-    let l = c .before .before .before .before .before .before in
-    omega (arith, c .unknown-of .ensures .1, l .loop .inv .2, count-le (unknownAt (l .before .before .before .args .stream .now)) 0 (l .loop .i))
+    let l = c .before .before .before .before in
+    omega (arith, l .loop .inv .2, count-le (unknownAt (l .before .before .before .args .stream .now)) 0 (l .loop .i))
 
 add-i : tie.Need-add-i Inv-loop μ-loop
 add-i c = omega arith
@@ -69,17 +66,17 @@ loop-less c = omega arith
 
 loop-again : tie.Need-loop-again Inv-loop μ-loop
 loop-again c =
-    let l = c .before .before .before .before .before .before in
+    let l = c .before .before .before .before in
     let s = l .before .before .before in
     let xs = s .args .stream .now in
     let place : l .loop .i + 2 * (l .loop .i / 91) + 2 ≡ halfOf (l .loop .i) = omega arith in
-    let hw = c .before .before .before .before .half .ensures ∙ ap (halfAt xs) place in
-    let hf = c .before .before .before .half2 .ensures ∙ ap (λ (n : ℕ). halfAt xs (n + 1)) place in
-    let hr = c .before .before .read-indexed .ensures in
+    let hw = c .before .before .half .ensures ∙ ap (halfAt xs) place in
+    let hf = c .before .half2 .ensures ∙ ap (λ (n : ℕ). halfAt xs (n + 1)) place in
+    let hr = c .read-indexed .ensures .0 in
     let inside : l .loop .i < length (l .loop .out) = omega (arith, l .loop .inv .1 .same, s .pre .4) in (
       omega arith,
-      upto-more _ _ _ _ _ inside (c .before .byte-of .ensures ∙ byte-is xs (l .loop .i) _ _ _ hw hf hr) (l .loop .inv .1),
-      ap₂ _+_ (l .loop .inv .2) (c .unknown-of .ensures .0 ∙ ap bit (unknown-is xs (l .loop .i) _ _ _ hw hf hr)) ∙ sym (count-snoc (unknownAt xs) (l .loop .i)),
+      upto-more _ _ _ _ _ inside (byte-is xs (l .loop .i) _ _ _ hw hf hr) (l .loop .inv .1),
+      ap₂ _+_ (l .loop .inv .2) (unknown-is xs (l .loop .i) _ _ _ hw hf hr) ∙ sym (count-snoc (unknownAt xs) (l .loop .i)),
     )
 
 same-length : tie.Need-same-length Inv-loop μ-loop
@@ -110,9 +107,8 @@ read-bytes-spec =
     add-half
     half-requires-2
     read-indexed-requires
-    byte-of-requires
+    cast-out
     slice-write-out
-    unknown-of-requires
     add-unknown
     add-i
     loop-less
