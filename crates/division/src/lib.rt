@@ -1,0 +1,3 @@
+// Long division.
+mod divide;
+mod table;
