@@ -15,20 +15,15 @@ use Rattle.lists.proofs.Bytes.{zeros-bytes}
 use Rattle.field.specs.Field.{add, mul}
 use Rattle.codes.specs.Parity.{shiftIn, remainder, generatorTail, parity}
 use Rattle.division.specs.Packed.{number, high, low, multiples, Packed, Beside}
-use Rattle.division.proofs.Numbers.{number-same}
+use Rattle.division.proofs.Numbers.{number-zeros}
 use Rattle.division.proofs.Step.{packed-next}
 
 -- ---- registers of zeros
 
-zeros-place : (n i : ℕ) → _≡_ {A = ℕ} (getD (replicate n 0) i 0) 0
+pub zeros-place : (n i : ℕ) → _≡_ {A = ℕ} (getD (replicate n 0) i 0) 0
 zeros-place zero i = refl
 zeros-place (suc n) zero = refl
 zeros-place (suc n) (suc i) = zeros-place n i
-
-number-zeros : (f : ℕ → ℕ) → ((i : ℕ) → f i ≡ 0) → (k n : ℕ) → number f k n ≡ 0
-unfolding number
-number-zeros f h k zero = refl
-number-zeros f h k (suc n) = omega (arith, number-zeros f h k n, h (k + n))
 
 pub packed-zeros : (p : ℕ) → Packed p (replicate p 0) 0 0
 unfolding high low
@@ -132,3 +127,35 @@ shifting-more m row old regs j h l e h' l' size lj eh el ee eh' el' w = record {
 pub shifting-all : (m row old regs : List ℕ) (j : ℕ) → j ≡ length row → Shifting m row old regs j
     → (p : ℕ) (R : ℕ → List ℕ) → p ≤ 16 → m ≡ multiples p → Beside p R (length row) old → Beside p (λ j. shiftIn (generatorTail p) (R j) (getD row j 0)) (length row) regs
 shifting-all m row old regs j e w p R le em b = record { size = w .same ∙ b .size; each = λ i l. w .done p R le em b i (omega arith) }
+
+-- ---- what a caller of the registers side by side needs
+
+pub beside-zeros : (p n : ℕ) → Beside p (λ j. replicate p 0) n (replicate (2 * n) 0)
+beside-zeros p n = record {
+  size = length-replicate (2 * n) 0;
+  each = λ j l. rw (zeros-place (2 * n) (2 * j), zeros-place (2 * n) (2 * j + 1)) (packed-zeros p);
+}
+
+pub beside-same : (p n : ℕ) (R Q : ℕ → List ℕ) (regs : List ℕ) → ((j : ℕ) → j < n → R j ≡ Q j) → Beside p R n regs → Beside p Q n regs
+beside-same p n R Q regs h b = record {
+  size = b .size;
+  each = λ j l. subst (λ (x : List ℕ). Packed p x (getD regs (2 * j) 0) (getD regs (2 * j + 1) 0)) (h j l) (b .each j l);
+}
+
+-- columns w j, i bytes of each taken
+pub beside-more : (p n : ℕ) (w : ℕ → List ℕ) (i : ℕ) (row regs : List ℕ) → ((j : ℕ) → j < n → i < length (w j)) → ((j : ℕ) → j < n → getD row j 0 ≡ getD (w j) i 0)
+    → Beside p (λ j. shiftIn (generatorTail p) (remainder (generatorTail p) (replicate p 0) (take i (w j))) (getD row j 0)) n regs
+    → Beside p (λ j. remainder (generatorTail p) (replicate p 0) (take (i + 1) (w j))) n regs
+beside-more p n w i row regs l e b =
+    beside-same p n (λ j. shiftIn (generatorTail p) (remainder (generatorTail p) (replicate p 0) (take i (w j))) (getD row j 0))
+    (λ j. remainder (generatorTail p) (replicate p 0) (take (i + 1) (w j))) regs
+    (λ j m. ap (shiftIn (generatorTail p) (remainder (generatorTail p) (replicate p 0) (take i (w j)))) (e j m)
+    ∙ sym (remainder-more (generatorTail p) (replicate p 0) (w j) i (l j m)))
+    b
+
+pub beside-all : (p n : ℕ) (w : ℕ → List ℕ) (i : ℕ) (regs : List ℕ) → ((j : ℕ) → j < n → length (w j) ≤ i)
+    → Beside p (λ j. remainder (generatorTail p) (replicate p 0) (take i (w j))) n regs → Beside p (λ j. parity p (w j)) n regs
+unfolding parity
+beside-all p n w i regs l b =
+    beside-same p n (λ j. remainder (generatorTail p) (replicate p 0) (take i (w j))) (λ j. parity p (w j)) regs
+    (λ j m. ap (remainder (generatorTail p) (replicate p 0)) (take-all i (w j) (l j m))) b
