@@ -75,7 +75,8 @@ pub fn repair_block(block: &mut [u8], main: &mut [u8]) -> Repaired
     }
     let t = field::log_table();
     let rows = rows::repair_rows(&t, block);
-    let columns = columns::repair_columns(&t, block);
+    let m = division::multiples16();
+    let columns = columns::repair_columns(&t, &m, block);
     let answer = frames::judge_frames(&t, block, Tallies { rows, columns });
     if repair_number(answer) != 0 {
         return answer;

@@ -49,9 +49,14 @@ fn repair_row(t: &[u8; 768], q: usize, b: &mut [u8]) -> Outcome
             outcome: Outcome::Clean,
         },
     );
+    let outcome = row.outcome;
+    // A row that is clean stands there already.
+    if let Outcome::Clean = outcome {
+        return Outcome::Clean;
+    }
     let near = row.bytes;
     store_row(&near, q, b);
-    row.outcome
+    outcome
 }
 
 pub fn repair_rows(t: &[u8; 768], b: &mut [u8]) -> Tally
