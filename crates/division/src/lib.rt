@@ -13,6 +13,7 @@ pub use parity::parity10_with;
 pub use parity::parity16;
 pub use parity::parity16_with;
 pub use parity::unpack;
+pub use parity::unpack10;
 pub use received::is_zero;
 pub use received::remainder_of;
 pub use register::Remainder;

@@ -15,7 +15,7 @@ fn byte(x: u64, k: u64) -> u8
 }
 
 // The bytes of a register of ten places.
-fn unpack10(high: u64, low: u64) -> [u8; 10]
+pub fn unpack10(high: u64, low: u64) -> [u8; 10]
     ensures { λ r. ⌜ r ≡ take 10 (unpacked high low) ⌝ }
 {
     [
