@@ -15,6 +15,10 @@ pub record Stored (at : ℕ → ℕ) (v old new : List ℕ) (n : ℕ) : Type 0 w
   pub done : (i : ℕ) → i < n → getD new (at i) 0 ≡ getD v i 0
   pub left : (p : ℕ) → ((i : ℕ) → i < n → p ≢ at i) → getD new p 0 ≡ getD old p 0
 
+-- where byte j of bytes that follow one another from a place on stands
+abbrev pub rowPlace : ℕ → ℕ → ℕ
+rowPlace p j = p + j
+
 -- where byte q of frame k stands
 abbrev pub framePlace : ℕ → ℕ → ℕ
 framePlace k q = (13 * k + q / 172) * 182 + q % 172

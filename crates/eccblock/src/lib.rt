@@ -2,14 +2,14 @@
 // logarithms is made once a block and lent from there on.
 ghost use mathlib.Core.Path.{_≡_};
 ghost use mathlib.Core.List.{List};
-ghost use Prim.Native.Nat.{ℕ, _<_, _≤_};
+ghost use Prim.Native.Nat.{ℕ, _+_, _<_, _≤_};
 ghost use lib.ListN.{length};
 ghost use Rattle.lists.specs.Fill.{tabulate};
 ghost use Rattle.field.specs.Tables.{LogTable};
 ghost use Rattle.eccblock.specs.Block.{frame, block};
 ghost use Rattle.eccblock.specs.Parts.{frameOf};
 ghost use Rattle.eccblock.specs.Encode.{encodeRefusal, encodeNumber, encodedBuffer};
-ghost use Rattle.eccblock.specs.Stages.{Stored, framePlace, outerPlace, innerPlace, columnByte, Frames, Columns, Rows};
+ghost use Rattle.eccblock.specs.Stages.{Stored, rowPlace, framePlace, outerPlace, innerPlace, columnByte, Frames, Columns, Rows};
 
 // What the block maker answers. Document 01's number of each is `encodeNumber`.
 pub enum Encoded {
@@ -33,14 +33,29 @@ fn scrambled_frame(t: &[u8; 768], main: &[u8], first: u32, info: u8, k: usize) -
     dataframe::scramble(f, n)
 }
 
-fn store_frame(f: &[u8; 2064], k: usize, out: &mut [u8])
-    requires { ⌜ (k < 16) × (length (now out) ≡ 37856) ⌝ }
+// Bytes one after the other, from the place at on.
+fn copy_row(s: &[u8], at: usize, out: &mut [u8])
+    requires { ⌜ at + length (now s) ≤ length (now out) ⌝ }
+    ensures { λ r. ⌜ Stored (rowPlace at) (now (s .entry)) (now (out .entry)) (now (out .exit)) (length (now (s .entry))) ⌝ }
+{
+    let mut j: usize = 0;
+    while j < s.len() {
+        out[at + j] = s[j];
+        j += 1;
+    }
+}
+
+// Twelve rows of 172 bytes.
+fn store_frame(f: &[u8], k: usize, out: &mut [u8])
+    requires { ⌜ (length (now f) ≡ 2064) × (k < 16) × (length (now out) ≡ 37856) ⌝ }
     ensures { λ r. ⌜ Stored (framePlace k) (now (f .entry)) (now (out .entry)) (now (out .exit)) 2064 ⌝ }
 {
-    let mut q: usize = 0;
-    while q < 2064 {
-        out[(13 * k + q / 172) * 182 + q % 172] = f[q];
-        q += 1;
+    let mut r: usize = 0;
+    while r < 12 {
+        let start = 172 * r;
+        let end = start + 172;
+        copy_row(&f[start..end], (13 * k + r) * 182, out);
+        r += 1;
     }
 }
 
@@ -177,10 +192,12 @@ pub fn frame_at(b: &[u8], k: usize) -> [u8; 2064]
     ensures { λ r. ⌜ r ≡ frameOf (now (b .entry)) k ⌝ }
 {
     let mut f = [0u8; 2064];
-    let mut q: usize = 0;
-    while q < 2064 {
-        f[q] = b[(13 * k + q / 172) * 182 + q % 172];
-        q += 1;
+    let mut r: usize = 0;
+    while r < 12 {
+        let start = (13 * k + r) * 182;
+        let end = start + 172;
+        copy_row(&b[start..end], 172 * r, &mut f);
+        r += 1;
     }
     f
 }
