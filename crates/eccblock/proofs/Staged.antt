@@ -15,7 +15,7 @@ use Rattle.lists.specs.Fill.{tabulate}
 use Rattle.lists.proofs.Fill.{length-tabulate, getD-tabulate, is-tabulate, Upto}
 use Rattle.codes.specs.Parity.{parity}
 use Rattle.eccblock.specs.Block.{recordingRow, originalRow, frame, dataByte, column, codeColumn, row, codeRow, blockByte, block}
-use Rattle.eccblock.specs.Stages.{Stored, rowPlace, framePlace, outerPlace, innerPlace, columnByte, Frames, Columns, Rows}
+use Rattle.eccblock.specs.Stages.{Stored, rowPlace, framePlace, outerPlace, innerPlace, columnByte, outerOf, Frames, Columns, Rows}
 use Rattle.eccblock.proofs.Order.{recording-row, original-low, original-high}
 
 -- ---- bytes stored one after the other, at places that differ
@@ -170,10 +170,10 @@ pub columns-none : (main : List ℕ) (first info : ℕ) (xs : List ℕ) → Fram
 columns-none main first info xs v = record { frames = v; done = λ j i l h. absurd (omega arith) }
 
 pub columns-more :
-    (main : List ℕ) (first info j : ℕ) (p old new : List ℕ) → j < 172 → p ≡ parity 16 (tabulate (columnByte old j) 192)
+    (main : List ℕ) (first info j : ℕ) (start p old new : List ℕ) → j < 172 → Frames main first info 16 start → p ≡ outerOf start j
     → Stored (outerPlace j) p old new 16 → Columns main first info j old → Columns main first info (j + 1) new
-columns-more main first info j p old new hj e w v =
-    let f : p ≡ parity 16 (column main first info j) = e ∙ ap (parity 16) (column-is main first info j old hj (v .frames)) in
+columns-more main first info j start p old new hj u e w v =
+    let f : p ≡ parity 16 (column main first info j) = e ∙ ap (parity 16) (column-is main first info j start hj u) in
     record {
       frames = record {
         size = w .size ∙ v .frames .size;
