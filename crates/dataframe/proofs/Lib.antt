@@ -3,3 +3,5 @@ pub mod Framed
 pub mod Checked
 pub mod Laws
 pub mod Residue
+pub mod Linear
+pub mod Unscrambled

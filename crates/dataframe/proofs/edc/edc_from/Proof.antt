@@ -1,4 +1,4 @@
--- `dataframe::edc_number` meets its contract: what is left to divide in gives the same remainder at every turn. Assumes nothing.
+-- `dataframe::edc::edc_from` meets its contract: what is left to divide in gives the same remainder at every turn. Assumes nothing.
 use mathlib.Core.Path.{_≡_, refl, sym, _∙_}
 use Prim.Native.Nat.{_≤_, _-_}
 use lib.ListN.{length, drop}
@@ -6,14 +6,14 @@ use Rattle.dataframe.specs.Frame.{edcFrom}
 use Rattle.dataframe.proofs.Framed.{edc-next, edc-end}
 use borrow.Author.Needs.{needs}
 use native.Mathlib.Omega.{arith}
-use Rattle.dataframe.proofs.edc_number.Statement.{statement}
-use Rattle.dataframe.proofs.edc_number.Tie as tie
+use Rattle.dataframe.proofs.edc.edc_from.Statement.{statement}
+use Rattle.dataframe.proofs.edc.edc_from.Tie as tie
 
 abbrev Inv-loop : tie.InvT-loop
-Inv-loop xs r₀ i₀ r i = (i ≤ length xs) × (edcFrom r (drop i xs) ≡ edcFrom 0 xs)
+Inv-loop t r xs s₀ i₀ s i = (i ≤ length xs) × (edcFrom s (drop i xs) ≡ edcFrom r xs)
 
 abbrev μ-loop : tie.MeasureT-loop
-μ-loop xs r₀ i₀ r i = length xs - i
+μ-loop t r xs s₀ i₀ s i = length xs - i
 
 loop-holds : tie.Need-loop-holds Inv-loop μ-loop
 loop-holds c = (omega arith, refl)
@@ -34,15 +34,15 @@ loop-again : tie.Need-loop-again Inv-loop μ-loop
 loop-again c = (
   omega arith,
   rw (c .edc-byte .ensures)
-      (edc-next (c .before .before .before .loop .r) (c .before .before .before .before .before .args .xs .now) (c .before .before .before .loop .i) (omega arith)
+      (edc-next (c .before .before .before .loop .s) (c .before .before .before .before .before .args .xs .now) (c .before .before .before .loop .i) (omega arith)
       ∙ c .before .before .before .loop .inv .1),
 )
 
 returns : tie.Need-returns Inv-loop μ-loop
-returns c = sym (edc-end (c .before .loop .r) (c .before .before .before .args .xs .now) (c .before .loop .i) (omega arith)) ∙ c .before .loop .inv .1
+returns c = sym (edc-end (c .before .loop .s) (c .before .before .before .args .xs .now) (c .before .loop .i) (omega arith)) ∙ c .before .loop .inv .1
 
-pub edc-number-spec : {M : Type 1} → statement M
-edc-number-spec =
+pub edc-from-spec : {M : Type 1} → statement M
+edc-from-spec =
     tie.close
     (tie.spec
     Inv-loop
