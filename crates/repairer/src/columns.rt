@@ -55,13 +55,14 @@ fn store_column(w: &[u8; 208], j: usize, b: &mut [u8])
 }
 
 // Column j repaired in its place, and what became of it.
-fn repair_column(t: &[u8; 768], j: usize, b: &mut [u8]) -> Outcome
-    requires { ⌜ LogTable (now t) × (length (now b) ≡ 37856) × (j < 172) ⌝ }
+fn repair_column(t: &[u8; 768], m: &[u64; 512], j: usize, b: &mut [u8]) -> Outcome
+    requires { ⌜ LogTable (now t) × (now m ≡ multiples 16) × (length (now b) ≡ 37856) × (j < 172) ⌝ }
     ensures { λ r. ⌜ (r ≡ outcomeOf 16 8 (columnOf (now (b .entry)) j)) × Stored (columnPlace j) (nearest 16 8 (columnOf (now (b .entry)) j)) (now (b .entry)) (now (b .exit)) 208 ⌝ }
 {
     let bytes = column_at(b, j);
     let column = reedsolomon::correct_column_with(
         t,
+        m,
         Column {
             bytes,
             outcome: Outcome::Clean,
@@ -89,8 +90,8 @@ fn divide_columns(m: &[u64; 512], b: &[u8]) -> [u64; 344]
 }
 
 // Column j, of which the generator leaves h and l. A column of which it leaves nothing is a code column, and stays: it need not be taken out.
-fn repair_left(t: &[u8; 768], h: u64, l: u64, j: usize, b: &mut [u8]) -> Outcome
-    requires { ⌜ LogTable (now t) × (length (now b) ≡ 37856) × (j < 172) × (h ≡ 0 → l ≡ 0 → isCode 16 (columnOf (now b) j) ≡ true) ⌝ }
+fn repair_left(t: &[u8; 768], m: &[u64; 512], h: u64, l: u64, j: usize, b: &mut [u8]) -> Outcome
+    requires { ⌜ LogTable (now t) × (now m ≡ multiples 16) × (length (now b) ≡ 37856) × (j < 172) × (h ≡ 0 → l ≡ 0 → isCode 16 (columnOf (now b) j) ≡ true) ⌝ }
     ensures { λ r. ⌜ (r ≡ outcomeOf 16 8 (columnOf (now (b .entry)) j)) × Stored (columnPlace j) (nearest 16 8 (columnOf (now (b .entry)) j)) (now (b .entry)) (now (b .exit)) 208 ⌝ }
 {
     if h == 0 {
@@ -98,7 +99,7 @@ fn repair_left(t: &[u8; 768], h: u64, l: u64, j: usize, b: &mut [u8]) -> Outcome
             return Outcome::Clean;
         }
     }
-    repair_column(t, j, b)
+    repair_column(t, m, j, b)
 }
 
 pub fn repair_columns(t: &[u8; 768], m: &[u64; 512], b: &mut [u8]) -> Tally
@@ -112,7 +113,7 @@ pub fn repair_columns(t: &[u8; 768], m: &[u64; 512], b: &mut [u8]) -> Tally
     };
     let mut j: usize = 0;
     while j < 172 {
-        let o = repair_left(t, left[2 * j], left[2 * j + 1], j, b);
+        let o = repair_left(t, m, left[2 * j], left[2 * j + 1], j, b);
         n = crate::count_word(n, o);
         j += 1;
     }

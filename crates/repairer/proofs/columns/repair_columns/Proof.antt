@@ -59,6 +59,7 @@ repair-left-requires c κs =
     let known = c .before .before .before .before .before .slice-known .given in
     let d = c .before .before .before .divide-columns in (
       s .pre .0,
+      s .pre .1,
       l .inv .2 .size ∙ s .pre .2,
       omega arith,
       λ e f. ap (isCode 16) (column-same old (l .b) (l .j) (omega arith) (l .inv .2)) ∙ divided-clean old (d .result) (λ k. omega (arith, known k)) (d .ensures) (l .j) (omega arith) e f,

@@ -17,7 +17,7 @@ returns : tie.Need-returns
 returns c =
     let s = c .before .before .before in
     let xs = s .args .b .now in
-    let code = s .pre .3 (c .before .if1 .taken) (c .if2 .taken) in
+    let code = s .pre .4 (c .before .if1 .taken) (c .if2 .taken) in
     let bytes = column-bytes xs (λ k. omega (arith, c .before .before .slice-known .given k)) (s .args .j) in (
       sym (outcome-clean 16 8 (columnOf xs (s .args .j)) bytes code),
       clean-stored 16 8 (columnOf xs (s .args .j)) bytes (omega (arith, column-length xs (s .args .j))) (omega arith) code (columnPlace (s .args .j)) xs 208

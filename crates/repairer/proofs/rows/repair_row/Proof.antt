@@ -37,7 +37,7 @@ returns c =
     let r = c .before .before .correct-row-with .ensures in
     let o : outcomeOf 10 5 w ≡ Clean = sym (r .1 ∙ ap (outcomeOf 10 5) (c .before .before .before .row-at .ensures)) ∙ c .enum-told .given .1 in (
       sym o,
-      clean-stored 10 5 w (row-bytes xs (λ k. omega (arith, c .before .before .before .before .before .slice-known .given k)) (s .args .q)) (omega (arith, row-length xs (s .args .q) (s .pre .1) (s .pre .2))) (omega arith) (clean-code 10 5 w o) (rowPlace (s .args .q)) xs 182
+      clean-stored 10 5 w (row-bytes xs (λ k. omega (arith, c .before .before .before .before .before .slice-known .given k)) (s .args .q)) (omega (arith, row-length xs (s .args .q) (s .pre .2) (s .pre .3))) (omega arith) (clean-code 10 5 w o) (rowPlace (s .args .q)) xs 182
           (λ i l. sym (row-byte xs (s .args .q) i l)),
     )
 
