@@ -6,6 +6,7 @@ ghost use Prim.Native.Nat.{ℕ, _<_, _≤_};
 ghost use lib.ListN.{length};
 ghost use Rattle.lists.specs.Fill.{tabulate};
 ghost use Rattle.field.specs.Tables.{LogTable};
+ghost use Rattle.division.specs.Packed.{multiples};
 ghost use Rattle.eccblock.specs.Block.{frame, block};
 ghost use Rattle.eccblock.specs.Parts.{frameOf};
 ghost use Rattle.eccblock.specs.Encode.{encodeRefusal, encodeNumber, encodedBuffer};
@@ -82,14 +83,14 @@ fn store_outer(p: &[u8; 16], j: usize, out: &mut [u8])
     }
 }
 
-fn add_outer(t: &[u8; 768], out: &mut [u8])
-    requires { ⌜ LogTable (now t) × (length (now out) ≡ 37856) ⌝ }
+fn add_outer(m: &[u64; 512], out: &mut [u8])
+    requires { ⌜ (now m ≡ multiples 16) × (length (now out) ≡ 37856) ⌝ }
     ensures { λ r. ⌜ (length (now (out .exit)) ≡ 37856) × ((main : List ℕ) (first info : ℕ) → Frames main first info 16 (now (out .entry)) → Columns main first info 172 (now (out .exit))) ⌝ }
 {
     let mut j: usize = 0;
     while j < 172 {
         let c = column_of(out, j);
-        let p = reedsolomon::parity16_with(t, &c);
+        let p = reedsolomon::parity16_with(m, &c);
         store_outer(&p, j, out);
         j += 1;
     }
@@ -108,15 +109,15 @@ fn store_inner(p: &[u8; 10], q: usize, out: &mut [u8])
     }
 }
 
-fn add_inner(t: &[u8; 768], out: &mut [u8])
-    requires { ⌜ LogTable (now t) × (length (now out) ≡ 37856) ⌝ }
+fn add_inner(m: &[u64; 512], out: &mut [u8])
+    requires { ⌜ (now m ≡ multiples 10) × (length (now out) ≡ 37856) ⌝ }
     ensures { λ r. ⌜ (length (now (out .exit)) ≡ 37856) × ((main : List ℕ) (first info : ℕ) → Rows main first info 0 (now (out .entry)) → Rows main first info 208 (now (out .exit))) ⌝ }
 {
     let mut q: usize = 0;
     while q < 208 {
         let at = q * 182;
         let end = at + 172;
-        let p = reedsolomon::parity10_with(t, &out[at..end]);
+        let p = reedsolomon::parity10_with(m, &out[at..end]);
         store_inner(&p, q, out);
         q += 1;
     }
@@ -130,8 +131,10 @@ fn fill_block(main: &[u8], first: u32, info: u8, out: &mut [u8])
 {
     let t = field::log_table();
     store_frames(&t, main, first, info, out);
-    add_outer(&t, out);
-    add_inner(&t, out);
+    let outer = division::multiples16();
+    add_outer(&outer, out);
+    let inner = division::multiples10();
+    add_inner(&inner, out);
 }
 
 // The block maker. Where it refuses, the buffer is left as it was.

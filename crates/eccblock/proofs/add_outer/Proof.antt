@@ -12,10 +12,10 @@ use Rattle.eccblock.proofs.add_outer.Statement.{statement}
 use Rattle.eccblock.proofs.add_outer.Tie as tie
 
 abbrev Inv-loop : tie.InvT-loop
-Inv-loop t out₀ j₀ out j = (j ≤ 172) × (length out ≡ 37856) × ((main : List ℕ) (first info : ℕ) → Frames main first info 16 out₀ → Columns main first info j out)
+Inv-loop table out₀ j₀ out j = (j ≤ 172) × (length out ≡ 37856) × ((main : List ℕ) (first info : ℕ) → Frames main first info 16 out₀ → Columns main first info j out)
 
 abbrev μ-loop : tie.MeasureT-loop
-μ-loop t out₀ j₀ out j = 172 - j
+μ-loop table out₀ j₀ out j = 172 - j
 
 loop-holds : tie.Need-loop-holds Inv-loop μ-loop
 loop-holds c = (omega arith, c .before .pre .1, λ m f i v. columns-none m f i _ v)
