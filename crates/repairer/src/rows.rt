@@ -3,7 +3,6 @@ ghost use mathlib.Core.Path.{_≡_};
 ghost use Prim.Native.Nat.{_<_};
 ghost use lib.ListN.{length};
 ghost use Rattle.field.specs.Tables.{LogTable};
-ghost use Rattle.division.specs.Packed.{multiples};
 ghost use Rattle.codes.specs.Nearest.{nearest, outcomeOf};
 ghost use Rattle.division.specs.Packed.{multiples};
 ghost use Rattle.eccblock.specs.Stages.{Stored};
