@@ -4,4 +4,3 @@ pub mod Checked
 pub mod Laws
 pub mod Residue
 pub mod Linear
-pub mod Unscrambled

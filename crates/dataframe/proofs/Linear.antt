@@ -1,24 +1,25 @@
 -- EDC and the scrambling register are linear: what a sum leaves is the sum of what its parts leave. From this a byte of EDC in one step, and eight shifts at once.
 -- Assumes nothing.
 use mathlib.Core.Path.{_≡_, refl, sym, ap, ap₂, _∙_}
-use mathlib.Core.List.{List}
+use mathlib.Core.List.{List, [], _∷_}
 use Prim.Native.Nat.{ℕ, zero, suc, _+_, _*_, _^_, _/_, _%_, _<_}
 use native.Mathlib.Nat.{mod-lt}
 use native.Mathlib.Nat.{zero-mul as ℕ-zero-mul, one-mul as ℕ-one-mul, add-zero as ℕ-add-zero}
 use native.Mathlib.Omega.{arith}
 use lib.Bits.{bitXor, xor-shr, xor-mod, xor-block, xor-shifted, xor-lt}
 use lib.Dec.{T, eqb, eqb→eq}
-use lib.ListN.{getD}
+use lib.ListN.{getD, replicate}
 use lib.Pow.{pow-pos, split}
 use Rattle.lists.specs.Test.{below}
 use Rattle.lists.proofs.Fill.{getD-tabulate}
 use Rattle.lists.proofs.Test.{below-at}
 use Rattle.field.specs.Field.{add}
-use Rattle.field.proofs.Field.{bit-cases, bit, add-self, zero-add, add-zero, add-swap, add-cancel}
-use Rattle.dataframe.specs.Frame.{edcBit, edcBits}
-use Rattle.dataframe.specs.Tables.{edcTable}
-use Rattle.dataframe.specs.Scrambling.{shifted, register}
-use Rattle.dataframe.proofs.Residue.{absorb-byte}
+use Rattle.field.proofs.Field.{bit-cases, bit, add-assoc, add-self, zero-add, add-zero, add-swap, add-cancel}
+use Rattle.dataframe.specs.Frame.{edcBit, edcBits, edcFrom, fourBytes}
+use Rattle.dataframe.specs.Tables.{edcEntry, edcTable}
+use Rattle.dataframe.specs.Scrambling.{shifted, register, scramblingByte}
+use Rattle.dataframe.proofs.Residue.{absorb-four}
+use Rattle.dataframe.proofs.Scrambled.{register-add}
 
 -- ---- sums of numbers, digit by digit
 
@@ -89,12 +90,64 @@ edcBits-add (suc n) r s x y =
     ap (λ (z : ℕ). edcBits z (add x y) n) (ap (edcBit (add r s)) (digit-add n x y) ∙ edcBit-add r s a b)
     ∙ edcBits-add n (edcBit r a) (edcBit s b) x y
 
--- a byte in one step: the remainder moves up by a byte, and what its highest byte and the new one leave comes in
-pub edc-step : (r x : ℕ) → r < 4294967296 → edcBits r x 8 ≡ add (r % 16777216 * 256) (edcBits 0 (add (r / 16777216) x) 8)
-edc-step r x h =
-    let t : ℕ = r / 16777216 in
-    ap₂ (λ (a b : ℕ). edcBits a b 8) (sym (add-zero r)) (sym (add-cancel t x)) ∙ edcBits-add 8 r 0 t (add t x)
-    ∙ ap (λ (z : ℕ). add z (edcBits 0 (add t x) 8)) (absorb-byte r t h refl)
+-- four bytes: what a sum of remainders and a sum of bytes leave
+four-add :
+    (r s a b c d e f g h : ℕ)
+    → edcFrom (add r s) (add a e ∷ add b f ∷ add c g ∷ add d h ∷ []) ≡ add (edcFrom r (a ∷ b ∷ c ∷ d ∷ [])) (edcFrom s (e ∷ f ∷ g ∷ h ∷ []))
+unfolding edcFrom
+four-add r s a b c d e f g h =
+    let r₁ : ℕ = edcBits r a 8 in
+    let s₁ : ℕ = edcBits s e 8 in
+    let r₂ : ℕ = edcBits r₁ b 8 in
+    let s₂ : ℕ = edcBits s₁ f 8 in
+    let r₃ : ℕ = edcBits r₂ c 8 in
+    let s₃ : ℕ = edcBits s₂ g 8 in
+    ap (λ (x : ℕ). edcBits (edcBits (edcBits x (add b f) 8) (add c g) 8) (add d h) 8) (edcBits-add 8 r s a e)
+    ∙ ap (λ (x : ℕ). edcBits (edcBits x (add c g) 8) (add d h) 8) (edcBits-add 8 r₁ s₁ b f)
+    ∙ ap (λ (x : ℕ). edcBits x (add d h) 8) (edcBits-add 8 r₂ s₂ c g) ∙ edcBits-add 8 r₃ s₃ d h
+
+-- a byte ZERO leaves the remainder 0 as it is
+zero-first : (xs : List ℕ) → edcFrom 0 (0 ∷ xs) ≡ edcFrom 0 xs
+unfolding edcFrom edcBits edcBit
+zero-first xs = refl
+
+four-split :
+    (a b c d e f g h : ℕ)
+    → edcFrom 0 (add a e ∷ add b f ∷ add c g ∷ add d h ∷ []) ≡ add (edcFrom 0 (a ∷ b ∷ c ∷ d ∷ [])) (edcFrom 0 (e ∷ f ∷ g ∷ h ∷ []))
+four-split a b c d e f g h =
+    ap (λ (x : ℕ). edcFrom x (add a e ∷ add b f ∷ add c g ∷ add d h ∷ [])) (sym (zero-add 0)) ∙ four-add 0 0 a b c d e f g h
+
+-- four bytes from the remainder 0, each by itself
+four-parts :
+    (a b c d : ℕ)
+    → edcFrom 0 (a ∷ b ∷ c ∷ d ∷ [])
+    ≡ add (add (add (edcFrom 0 (a ∷ 0 ∷ 0 ∷ 0 ∷ [])) (edcFrom 0 (b ∷ 0 ∷ 0 ∷ []))) (edcFrom 0 (c ∷ 0 ∷ []))) (edcFrom 0 (d ∷ []))
+four-parts a b c d =
+    simp (add-zero, zero-add) at (four-split a 0 0 0 0 b c d)
+    ∙ ap (add (edcFrom 0 (a ∷ 0 ∷ 0 ∷ 0 ∷ [])))
+    (simp (add-zero, zero-add) at (four-split 0 b 0 0 0 0 c d)
+    ∙ ap₂ add (zero-first (b ∷ 0 ∷ 0 ∷ []))
+    (simp (add-zero, zero-add) at (four-split 0 0 c 0 0 0 0 d)
+    ∙ ap₂ add (zero-first (0 ∷ c ∷ 0 ∷ []) ∙ zero-first (c ∷ 0 ∷ []))
+    (zero-first (0 ∷ 0 ∷ d ∷ []) ∙ zero-first (0 ∷ d ∷ []) ∙ zero-first (d ∷ []))))
+    ∙ sym (add-assoc (edcFrom 0 (a ∷ 0 ∷ 0 ∷ 0 ∷ [])) (edcFrom 0 (b ∷ 0 ∷ 0 ∷ [])) (add (edcFrom 0 (c ∷ 0 ∷ [])) (edcFrom 0 (d ∷ []))))
+    ∙ sym (add-assoc (add (edcFrom 0 (a ∷ 0 ∷ 0 ∷ 0 ∷ [])) (edcFrom 0 (b ∷ 0 ∷ 0 ∷ []))) (edcFrom 0 (c ∷ 0 ∷ [])) (edcFrom 0 (d ∷ [])))
+
+-- four bytes in one step: each byte is added to its byte of the remainder
+pub edc-four :
+    (r a b c d : ℕ) → r < 4294967296
+    → edcFrom r (a ∷ b ∷ c ∷ d ∷ []) ≡ edcFrom 0 (add (r / 16777216) a ∷ add (r / 65536 % 256) b ∷ add (r / 256 % 256) c ∷ add (r % 256) d ∷ [])
+unfolding fourBytes
+edc-four r a b c d h =
+    let w : ℕ = r / 16777216 in
+    let x : ℕ = r / 65536 % 256 in
+    let y : ℕ = r / 256 % 256 in
+    let z : ℕ = r % 256 in
+    let e : w ≡ w % 256 = omega arith in
+    simp (add-zero, add-cancel) at (four-add r 0 w x y z (add w a) (add x b) (add y c) (add z d))
+    ∙ ap (λ (v : ℕ). add v (edcFrom 0 (add w a ∷ add x b ∷ add y c ∷ add z d ∷ [])))
+    (ap (λ (v : ℕ). edcFrom r (v ∷ x ∷ y ∷ z ∷ [])) e ∙ absorb-four r h)
+    ∙ zero-add (edcFrom 0 (add w a ∷ add x b ∷ add y c ∷ add z d ∷ []))
 
 -- ---- the scrambling register
 
@@ -156,17 +209,78 @@ eight-shifts r h =
     (eqb→eq (register b 8) (eight b) (below-at 256 (λ a. eqb (register a 8) (eight a)) low-parts b (omega arith)))
     ∙ sym (eight-add (a * 256) b) ∙ ap eight e
 
+-- A^15 = A^4 + 1 for the shift A, and so for its squares: A^120 = A^32 + 1
+abbrev Recurs : ℕ → ℕ → Type 0
+Recurs m k = (r : ℕ) → r < 32768 → register r m ≡ add r (register r k)
+
+pub register-lt : (r n : ℕ) → r < 32768 → register r n < 32768
+unfolding register shifted
+register-lt r zero h = h
+register-lt r (suc n) h = omega arith
+
+low-recur : T (below 256 (λ a. eqb (register a 15) (add a (register a 4))))
+unfolding register shifted add
+low-recur = tt
+
+high-recur : T (below 128 (λ a. eqb (register (a * 256) 15) (add (a * 256) (register (a * 256) 4))))
+unfolding register shifted add
+high-recur = tt
+
+recurs : Recurs 15 4
+recurs r h =
+    let a : ℕ = r / 256 in
+    let b : ℕ = r % 256 in
+    let e : add (a * 256) b ≡ r = add-parts 8 r in
+    ap (λ (x : ℕ). register x 15) (sym e) ∙ register-sum 15 (a * 256) b
+    ∙ ap₂ add
+    (eqb→eq (register (a * 256) 15) (add (a * 256) (register (a * 256) 4))
+    (below-at 128 (λ a. eqb (register (a * 256) 15) (add (a * 256) (register (a * 256) 4))) high-recur a (omega arith)))
+    (eqb→eq (register b 15) (add b (register b 4)) (below-at 256 (λ a. eqb (register a 15) (add a (register a 4))) low-recur b (omega arith)))
+    ∙ add-swap (a * 256) (register (a * 256) 4) b (register b 4)
+    ∙ ap₂ add e (sym (register-sum 4 (a * 256) b) ∙ ap (λ (x : ℕ). register x 4) e)
+
+recurs-twice : (m k : ℕ) → Recurs m k → Recurs (m + m) (k + k)
+recurs-twice m k h r l =
+    let s : ℕ = register r k in
+    register-add r m m ∙ h (register r m) (register-lt r m l)
+    ∙ ap₂ add (h r l) (ap (λ (x : ℕ). register x k) (h r l) ∙ register-sum k r s)
+    ∙ add-assoc r s (add s (register s k)) ∙ ap (add r) (add-cancel s (register s k) ∙ sym (register-add r k k))
+
+-- a scrambling byte is the sum of those fifteen and eleven before it
+pub byte-recurs : (r i : ℕ) → r < 32768 → scramblingByte r (i + 15) ≡ add (scramblingByte r i) (scramblingByte r (i + 4))
+unfolding scramblingByte
+byte-recurs r i h =
+    let s : ℕ = register r (8 * i) in
+    let e : 8 * (i + 15) ≡ 8 * i + 120 = omega arith in
+    let f : 8 * (i + 4) ≡ 8 * i + 32 = omega arith in
+    ap (λ (n : ℕ). register r n % 256) e ∙ ap (λ (x : ℕ). x % 256) (register-add r (8 * i) 120)
+    ∙ ap (λ (x : ℕ). x % 256) (recurs-twice 60 16 (recurs-twice 30 8 (recurs-twice 15 4 recurs)) s (register-lt r (8 * i) h))
+    ∙ add-mod 8 s (register s 32)
+    ∙ ap (λ (x : ℕ). add (s % 256) (x % 256)) (sym (register-add r (8 * i) 32)) ∙ ap (λ (n : ℕ). add (s % 256) (register r n % 256)) (sym f)
+
 -- ---- the table of EDC
 
-pub index-lt : (r x : ℕ) → r < 4294967296 → x < 256 → bitXor (r / 16777216) x < 256
-index-lt r x h k = xor-lt 8 (r / 16777216) x (omega arith) k
+-- entry 256 k + h, h below 256
+entry-at : (t : List ℕ) (k h : ℕ) → t ≡ edcTable → k < 4 → h < 256 → getD t (256 * k + h) 0 ≡ edcFrom 0 (h ∷ replicate k 0)
+unfolding edcTable edcEntry
+entry-at t k h e l m =
+    let a : (256 * k + h) % 256 ≡ h = omega arith in
+    let b : (256 * k + h) / 256 ≡ k = omega arith in
+    ap (λ (u : List ℕ). getD u (256 * k + h) 0) e ∙ getD-tabulate edcEntry 1024 (256 * k + h) (omega arith)
+    ∙ ap₂ (λ (x y : ℕ). edcFrom 0 (x ∷ replicate y 0)) a b
 
--- a byte in one step, by the table
-pub table-step :
-    (t : List ℕ) (r x : ℕ) → t ≡ edcTable → r < 4294967296 → x < 256
-    → bitXor (r % 16777216 * 256) (getD t (bitXor (r / 16777216) x) 0) ≡ edcBits r x 8
-unfolding edcTable add
-table-step t r x e h k =
-    ap (bitXor (r % 16777216 * 256))
-    (ap (λ (u : List ℕ). getD u (bitXor (r / 16777216) x) 0) e ∙ getD-tabulate (λ y. edcBits 0 y 8) 256 (bitXor (r / 16777216) x) (index-lt r x h k))
-    ∙ sym (edc-step r x h)
+-- four bytes in one step, by the table
+pub table-four :
+    (t : List ℕ) (r a b c d h i j k : ℕ) → t ≡ edcTable → r < 4294967296
+    → (h ≡ add (r / 16777216) a) × (h < 256) → (i ≡ add (r / 65536 % 256) b) × (i < 256) → (j ≡ add (r / 256 % 256) c) × (j < 256)
+    → (k ≡ add (r % 256) d) × (k < 256)
+    → add (add (add (getD t (768 + h) 0) (getD t (512 + i) 0)) (getD t (256 + j) 0)) (getD t k 0) ≡ edcFrom r (a ∷ b ∷ c ∷ d ∷ [])
+table-four t r a b c d h i j k e l ph pi pj pk =
+    let n : k ≡ 256 * 0 + k = omega arith in
+    ap₂ add
+    (ap₂ add (ap₂ add (entry-at t 3 h e (omega arith) (ph .1)) (entry-at t 2 i e (omega arith) (pi .1))) (entry-at t 1 j e (omega arith) (pj .1)))
+    (ap (λ (x : ℕ). getD t x 0) n ∙ entry-at t 0 k e (omega arith) (pk .1))
+    ∙ sym (four-parts h i j k)
+    ∙ ap₂ (λ (x y : ℕ). edcFrom 0 (x ∷ y ∷ j ∷ k ∷ [])) (ph .0) (pi .0)
+    ∙ ap₂ (λ (x y : ℕ). edcFrom 0 (add (r / 16777216) a ∷ add (r / 65536 % 256) b ∷ x ∷ y ∷ [])) (pj .0) (pk .0)
+    ∙ sym (edc-four r a b c d l)
