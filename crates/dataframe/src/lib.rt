@@ -1,5 +1,5 @@
 // Data Frames and their scrambling (ECMA-268, clauses 16 and 17), and the checks of a frame that was read. Frames go in and come back by value; the table of
-// logarithms is lent, so that no frame makes it anew.
+// logarithms is lent, so that no frame makes it anew. The table of EDC is copied once a frame, which takes a small part of the time of the division.
 ghost use mathlib.Core.Path.{_≡_};
 ghost use mathlib.Core.Bool.{_||_, not};
 ghost use Prim.Native.Nat.{ℕ, _+_, _*_, _%_, _<_, _≤_};
@@ -151,8 +151,8 @@ pub fn data_frame(t: &[u8; 768], d: &[u8], info: u8, n: u32) -> [u8; 2064]
     let mut f = [0u8; 2064];
     put_at(&h, 0, &mut f);
     put_at(d, 12, &mut f);
-    let p = edc::edc_table();
-    let e = edc::edc(&p, &f[0..2060]);
+    let table = edc::edc_table();
+    let e = edc::edc(&table, &f[0..2060]);
     put_at(&e, 2060, &mut f);
     f
 }
@@ -238,8 +238,8 @@ fn edc_passes(f: [u8; 2064]) -> bool
     ensures { λ r. ⌜ r ≡ edcPasses f ⌝ }
 {
     let g = unscramble(f);
-    let p = edc::edc_table();
-    let e = edc::edc(&p, &g[0..2060]);
+    let table = edc::edc_table();
+    let e = edc::edc(&table, &g[0..2060]);
     agrees(&f[2060..2064], &e)
 }
 

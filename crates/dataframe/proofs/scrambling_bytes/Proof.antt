@@ -9,7 +9,7 @@ use Rattle.field.specs.Field.{add}
 use Rattle.lists.proofs.Fill.{Upto, upto-more, upto-all}
 use Rattle.dataframe.specs.Scrambling.{presetOf, scramblingByte}
 use Rattle.dataframe.proofs.Scrambled.{preset-lt}
-use Rattle.dataframe.proofs.Linear.{byte-recurs}
+use Rattle.dataframe.proofs.Register.{byte-recurs}
 use Rattle.dataframe.proofs.scrambling_bytes.Statement.{statement}
 use Rattle.dataframe.proofs.scrambling_bytes.Tie as tie
 

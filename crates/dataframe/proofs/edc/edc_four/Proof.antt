@@ -1,7 +1,7 @@
 -- `dataframe::edc::edc_four` meets its contract. Assumes nothing.
 use native.Mathlib.Omega.{arith}
 use Rattle.field.specs.Field.{add}
-use Rattle.dataframe.proofs.Linear.{table-four}
+use Rattle.dataframe.proofs.Remainders.{table-four}
 use borrow.Author.Needs.{needs}
 use Rattle.dataframe.proofs.edc.edc_four.Statement.{statement}
 use Rattle.dataframe.proofs.edc.edc_four.Tie as tie
