@@ -3,5 +3,6 @@ pub mod Framed
 pub mod Checked
 pub mod Laws
 pub mod Residue
-pub mod Linear
-pub mod Unscrambled
+pub mod Sums
+pub mod Remainders
+pub mod Register

@@ -75,13 +75,13 @@ low-byte : (x : ℕ) → x < 256 → lowBits x 8 ≡ x
 low-byte x h = eqb→eq (lowBits x 8) x (below-at 256 (λ x. eqb (lowBits x 8) x) low-bytes x h)
 
 -- the highest byte of a remainder
-pub absorb-byte : (r x : ℕ) → r < 4294967296 → x ≡ r / 16777216 → edcBits r x 8 ≡ r % 16777216 * 256
+absorb-byte : (r x : ℕ) → r < 4294967296 → x ≡ r / 16777216 → edcBits r x 8 ≡ r % 16777216 * 256
 absorb-byte r x h e =
     let d : r ≡ x * 16777216 + r % 16777216 = omega arith in
     ap (λ (y : ℕ). edcBits y x 8) (d ∙ ap (λ (y : ℕ). y * 16777216 + r % 16777216) (sym (low-byte x (omega arith))))
     ∙ absorb-bits 8 x 16777216 (r % 16777216) refl (omega arith)
 
-absorb-four : (r : ℕ) → r < 4294967296 → edcFrom r (fourBytes r) ≡ 0
+pub absorb-four : (r : ℕ) → r < 4294967296 → edcFrom r (fourBytes r) ≡ 0
 unfolding edcFrom fourBytes
 absorb-four r h =
     let r₁ : ℕ = r % 16777216 * 256 in
@@ -96,7 +96,7 @@ absorb-four r h =
 
 -- ---- the law
 
-pub append : (r : ℕ) (xs ys : List ℕ) → edcFrom r (xs ++ ys) ≡ edcFrom (edcFrom r xs) ys
+append : (r : ℕ) (xs ys : List ℕ) → edcFrom r (xs ++ ys) ≡ edcFrom (edcFrom r xs) ys
 unfolding edcFrom
 append r [] ys = refl
 append r (x ∷ xs) ys = append (edcBits r x 8) xs ys

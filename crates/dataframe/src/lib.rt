@@ -1,15 +1,15 @@
 // Data Frames and their scrambling (ECMA-268, clauses 16 and 17), and the checks of a frame that was read. Frames go in and come back by value; the table of
-// logarithms is lent, so that no frame makes it anew.
+// logarithms is lent, so that no frame makes it anew. The table of EDC is copied once a frame, which takes a small part of the time of the division.
 ghost use mathlib.Core.Path.{_≡_};
 ghost use mathlib.Core.Bool.{_||_, not};
-ghost use Prim.Native.Nat.{_+_, _*_, _%_, _<_, _≤_};
+ghost use Prim.Native.Nat.{ℕ, _+_, _*_, _%_, _<_, _≤_};
 ghost use lib.Dec.{eqb};
-ghost use lib.ListN.{length, take, drop};
+ghost use lib.ListN.{length, getD};
 ghost use lib.Seq.{paste};
+ghost use Rattle.lists.specs.Fill.{tabulate};
 ghost use Rattle.field.specs.Tables.{LogTable};
-ghost use Rattle.dataframe.specs.Frame.{headOf, edcFrom, dataFrame};
-ghost use Rattle.dataframe.specs.Tables.{edcTable};
-ghost use Rattle.dataframe.specs.Scrambling.{presets, presetOf, register, scrambled};
+ghost use Rattle.dataframe.specs.Frame.{headOf, dataFrame};
+ghost use Rattle.dataframe.specs.Scrambling.{presets, presetOf, register, scramblingByte, scrambled};
 ghost use Rattle.dataframe.specs.Checks.{numberOf, unscrambled, agree, iedPasses, idPasses, edcPasses, frameRefusal, checkNumber};
 
 mod edc;
@@ -71,16 +71,43 @@ fn low_byte(r: u16) -> u8
     (r % 256) as u8
 }
 
+// The first fifteen scrambling bytes of sector n.
+fn first_bytes(n: u32) -> [u8; 2048]
+    ensures { λ r. ⌜ ((i : ℕ) → i < 15 → getD r i 0 ≡ scramblingByte (presetOf n) i) ⌝ }
+{
+    let mut s = [0u8; 2048];
+    let mut r = preset(n);
+    let mut i: usize = 0;
+    while i < 15 {
+        s[i] = low_byte(r);
+        r = eight_shifts(r);
+        i += 1;
+    }
+    s
+}
+
+// All of them: the register's rule, x^15 + x^4 + 1, holds for each eighth bit too, so a byte is the sum of those fifteen and eleven before it.
+fn scrambling_bytes(n: u32) -> [u8; 2048]
+    ensures { λ r. ⌜ r ≡ tabulate (scramblingByte (presetOf n)) 2048 ⌝ }
+{
+    let mut s = first_bytes(n);
+    let mut i: usize = 15;
+    while i < 2048 {
+        s[i] = s[i - 15] ^ s[i - 11];
+        i += 1;
+    }
+    s
+}
+
 // The main data bytes of the frame of sector n, scrambled or unscrambled.
 pub fn scramble(f: [u8; 2064], n: u32) -> [u8; 2064]
     ensures { λ r. ⌜ r ≡ scrambled n f ⌝ }
 {
+    let s = scrambling_bytes(n);
     let mut g = f;
-    let mut r = preset(n);
     let mut q: usize = 12;
     while q < 2060 {
-        g[q] = g[q] ^ low_byte(r);
-        r = eight_shifts(r);
+        g[q] = g[q] ^ s[q - 12];
         q += 1;
     }
     g
@@ -124,8 +151,8 @@ pub fn data_frame(t: &[u8; 768], d: &[u8], info: u8, n: u32) -> [u8; 2064]
     let mut f = [0u8; 2064];
     put_at(&h, 0, &mut f);
     put_at(d, 12, &mut f);
-    let p = edc::edc_table();
-    let e = edc::edc(&p, &f[0..2060]);
+    let table = edc::edc_table();
+    let e = edc::edc(&table, &f[0..2060]);
     put_at(&e, 2060, &mut f);
     f
 }
@@ -206,30 +233,13 @@ fn id_passes(f: &[u8; 2064], first: u32, info: u8, k: u32) -> bool
     true
 }
 
-// The remainder after the main data bytes of a frame of sector n as they were before scrambling, from a remainder r.
-fn edc_main(p: &[u32; 256], f: &[u8; 2064], n: u32, r: u32) -> u32
-    requires { ⌜ now p ≡ edcTable ⌝ }
-    ensures { λ s. ⌜ s ≡ edcFrom r (drop 12 (take 2060 (scrambled n (now (f .entry))))) ⌝ }
-{
-    let mut s = r;
-    let mut v = preset(n);
-    let mut q: usize = 12;
-    while q < 2060 {
-        s = edc::edc_byte(p, s, f[q] ^ low_byte(v));
-        v = eight_shifts(v);
-        q += 1;
-    }
-    s
-}
-
-// Check 6, with no unscrambled copy of the frame.
+// Check 6.
 fn edc_passes(f: [u8; 2064]) -> bool
     ensures { λ r. ⌜ r ≡ edcPasses f ⌝ }
 {
-    let p = edc::edc_table();
-    let n = sector_number(&f);
-    let h = edc::edc_from(&p, 0, &f[0..12]);
-    let e = edc::four_bytes(edc_main(&p, &f, n, h));
+    let g = unscramble(f);
+    let table = edc::edc_table();
+    let e = edc::edc(&table, &g[0..2060]);
     agrees(&f[2060..2064], &e)
 }
 

@@ -2,7 +2,7 @@
 use mathlib.Core.Path.{sym}
 use borrow.Author.Needs.{needs}
 use native.Mathlib.Omega.{arith}
-use Rattle.dataframe.proofs.Linear.{eight-shifts}
+use Rattle.dataframe.proofs.Register.{eight-shifts}
 use Rattle.dataframe.proofs.eight_shifts.Statement.{statement}
 use Rattle.dataframe.proofs.eight_shifts.Tie as tie
 

@@ -4,8 +4,8 @@ use Rattle.dataframe.specs.Frame.{edcOf}
 use Rattle.dataframe.proofs.edc.edc.Statement.{statement}
 use Rattle.dataframe.proofs.edc.edc.Tie as tie
 
-edc-from-requires : tie.Need-edc-from-requires
-edc-from-requires c κs = search needs
+edc-number-requires : tie.Need-edc-number-requires
+edc-number-requires c κs = search needs
 
 four-bytes-requires : tie.Need-four-bytes-requires
 four-bytes-requires c κs = search needs
@@ -15,4 +15,4 @@ unfolding edcOf
 returns c = cc
 
 pub edc-spec : {M : Type 1} → statement M
-edc-spec = tie.close (tie.spec edc-from-requires four-bytes-requires returns)
+edc-spec = tie.close (tie.spec edc-number-requires four-bytes-requires returns)

@@ -1,13 +1,13 @@
 -- `dataframe::edc::edc_table` meets its contract, by computing. Assumes nothing.
 use mathlib.Core.Path.{refl}
 use Rattle.lists.specs.Fill.{tabulateFrom}
-use Rattle.dataframe.specs.Frame.{edcBit, edcBits}
-use Rattle.dataframe.specs.Tables.{edcTable}
+use Rattle.dataframe.specs.Frame.{edcBit, edcBits, edcFrom}
+use Rattle.dataframe.specs.Tables.{edcEntry, edcTable}
 use Rattle.dataframe.proofs.edc.edc_table.Statement.{statement}
 use Rattle.dataframe.proofs.edc.edc_table.Tie as tie
 
 returns : tie.Need-returns
-unfolding edcTable tabulateFrom edcBits edcBit
+unfolding edcTable edcEntry tabulateFrom edcFrom edcBits edcBit
 returns c = refl
 
 pub edc-table-spec : {M : Type 1} → statement M
