@@ -7,7 +7,7 @@ use Prim.Native.Nat.{ℕ, zero, suc, _+_, _*_, _/_, _%_, _<_}
 use native.Mathlib.Decide.{decLt}
 use native.Mathlib.Omega.{arith}
 use lib.Dec.{T, ltb, ltb→lt, lit<}
-use lib.ListN.{length, List·getD-eq-default}
+use lib.ListN.{length, getD, List·getD-eq-default}
 use Rattle.lists.specs.Test.{every}
 use Rattle.lists.proofs.Test.{every-at}
 use Rattle.annexg.specs.Read.{tableOf, entryOf, wordOf, nextOf, bothZero}
@@ -34,9 +34,11 @@ unfolding tableOf mainTable subTable small
 small-tables zero = tt
 small-tables (suc t) = tt
 
-pub entry-below : (t b s : ℕ) → entryOf t b s < 1048576
+pub table-below : (t k : ℕ) → getD (tableOf t) k 0 < 1048576
 unfolding small
-entry-below t b s =
-    dite (decLt (b * 4 + s) (length (tableOf t)))
-    (λ h. ltb→lt (entryOf t b s) 1048576 (every-at small (tableOf t) (small-tables t) (b * 4 + s) h))
-    (λ h. rw (List·getD-eq-default (tableOf t) 0 {n = b * 4 + s} (omega (arith, h))) (lit< tt))
+table-below t k =
+    dite (decLt k (length (tableOf t))) (λ h. ltb→lt (getD (tableOf t) k 0) 1048576 (every-at small (tableOf t) (small-tables t) k h))
+    (λ h. rw (List·getD-eq-default (tableOf t) 0 {n = k} (omega (arith, h))) (lit< tt))
+
+pub entry-below : (t b s : ℕ) → entryOf t b s < 1048576
+entry-below t b s = table-below t (b * 4 + s)

@@ -18,11 +18,11 @@ use Rattle.annexg.proofs.Search.{each-table, in-table}
 use Rattle.annexg.specs.declared.Reading.{Reading}
 use Rattle.annexg.specs.declared.Reading.the-variants.{Byte, Unknown}
 
-data Tree : Type 0 where
+pub data Tree : Type 0 where
   leaf : Tree
   node : Tree → ℕ → ℕ → Tree → Tree
 
-put : ℕ → ℕ → Tree → Tree
+unfoldable pub put : ℕ → ℕ → Tree → Tree
 put w b leaf = node leaf w b leaf
 put w b (node l v c r) =
     elim (compare w v) [
@@ -31,7 +31,7 @@ put w b (node l v c r) =
       | Ordering·gt ↦ node l v c (put w b r)
     ]
 
-get : ℕ → Tree → ℕ
+unfoldable pub get : ℕ → Tree → ℕ
 get w leaf = 256
 get w (node l v c r) = elim (compare w v) [ Ordering·lt ↦ get w l | Ordering·eq ↦ c | Ordering·gt ↦ get w r ]
 

@@ -2,3 +2,4 @@ pub mod Tables
 pub mod Read
 pub mod Runs
 pub mod Sync
+pub mod Index

@@ -81,7 +81,7 @@ absorb-byte r x h e =
     ap (λ (y : ℕ). edcBits y x 8) (d ∙ ap (λ (y : ℕ). y * 16777216 + r % 16777216) (sym (low-byte x (omega arith))))
     ∙ absorb-bits 8 x 16777216 (r % 16777216) refl (omega arith)
 
-absorb-four : (r : ℕ) → r < 4294967296 → edcFrom r (fourBytes r) ≡ 0
+pub absorb-four : (r : ℕ) → r < 4294967296 → edcFrom r (fourBytes r) ≡ 0
 unfolding edcFrom fourBytes
 absorb-four r h =
     let r₁ : ℕ = r % 16777216 * 256 in

@@ -4,7 +4,6 @@ use mathlib.Core.Path.{_≡_, refl, sym, ap, _∙_}
 use mathlib.Core.Bool.{Bool, true, false, _&&_, cond}
 use mathlib.Core.List.{List}
 use Prim.Native.Nat.{ℕ, zero, suc, _+_, _*_, _-_, _/_, _%_, _<_, _≤_}
-use native.Mathlib.Numerals.{add-one}
 use native.Mathlib.Omega.{arith}
 use borrow.Author.Tests.{ltb-true, ltb-false, lt-ltb, le-ltb, le-leb, lt-leb}
 use lib.Dec.{T, leb, ltb, ltb→lt}
@@ -20,10 +19,6 @@ use Rattle.field.proofs.Field.{add-assoc, add-self, add-zero, add-lt}
 use Rattle.dataframe.specs.Scrambling.{presets, presetOf, shifted, register, scramblingByte, scrambledAt, scrambled}
 
 -- ---- the register
-
-pub register-next : (r i : ℕ) → shifted (register r i) ≡ register r (i + 1)
-unfolding register
-register-next r i = rw (add-one i)
 
 pub register-add : (r m n : ℕ) → register r (m + n) ≡ register (register r m) n
 unfolding register
@@ -49,10 +44,9 @@ pub scrambled-head : (n : ℕ) (f : List ℕ) (q : ℕ) → q < 12 → scrambled
 unfolding scrambledAt
 scrambled-head n f q h = rw (lt-leb 12 q h)
 
-pub scrambled-main :
-    (n : ℕ) (f : List ℕ) (q r : ℕ) → 12 ≤ q → q < 2060 → r ≡ register (presetOf n) (8 * (q - 12)) → scrambledAt n f q ≡ add (getD f q 0) (r % 256)
-unfolding scrambledAt scramblingByte
-scrambled-main n f q r h l e = rw (le-leb 12 q h, lt-ltb q 2060 l) (ap (λ (x : ℕ). add (getD f q 0) (x % 256)) (sym e))
+pub scrambled-main : (n : ℕ) (f : List ℕ) (q : ℕ) → 12 ≤ q → q < 2060 → scrambledAt n f q ≡ add (getD f q 0) (scramblingByte (presetOf n) (q - 12))
+unfolding scrambledAt
+scrambled-main n f q h l = rw (le-leb 12 q h, lt-ltb q 2060 l)
 
 and-false : (b : Bool) → (b && false) ≡ false
 and-false true = refl

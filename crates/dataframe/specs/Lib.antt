@@ -1,3 +1,4 @@
 pub mod Frame
+pub mod Tables
 pub mod Scrambling
 pub mod Checks

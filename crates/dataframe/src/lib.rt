@@ -1,15 +1,18 @@
 // Data Frames and their scrambling (ECMA-268, clauses 16 and 17), and the checks of a frame that was read. Frames go in and come back by value; the table of
-// logarithms is lent, so that no frame makes it anew.
+// logarithms is lent, so that no frame makes it anew. The table of EDC is copied once a frame, which takes a small part of the time of the division.
 ghost use mathlib.Core.Path.{_≡_};
 ghost use mathlib.Core.Bool.{_||_, not};
-ghost use Prim.Native.Nat.{_+_, _*_, _%_, _<_, _≤_};
+ghost use Prim.Native.Nat.{ℕ, _+_, _*_, _%_, _<_, _≤_};
 ghost use lib.Dec.{eqb};
-ghost use lib.ListN.{length};
+ghost use lib.ListN.{length, getD};
 ghost use lib.Seq.{paste};
+ghost use Rattle.lists.specs.Fill.{tabulate};
 ghost use Rattle.field.specs.Tables.{LogTable};
-ghost use Rattle.dataframe.specs.Frame.{headOf, edcBit, edcBits, edcFrom, edcOf, dataFrame};
-ghost use Rattle.dataframe.specs.Scrambling.{presets, presetOf, register, scrambled};
+ghost use Rattle.dataframe.specs.Frame.{headOf, dataFrame};
+ghost use Rattle.dataframe.specs.Scrambling.{presets, presetOf, register, scramblingByte, scrambled};
 ghost use Rattle.dataframe.specs.Checks.{numberOf, unscrambled, agree, iedPasses, idPasses, edcPasses, frameRefusal, checkNumber};
+
+mod edc;
 
 // What the checks of a frame find. Document 01's number of each is `checkNumber`.
 pub enum FrameCheck {
@@ -54,17 +57,12 @@ fn preset(n: u32) -> u16
     t[k]
 }
 
+// Eight shifts at once: r6 to r0 move up by eight places, and r14 to r7 xor r10 to r3 enter below them.
 fn eight_shifts(r: u16) -> u16
     requires { ⌜ r < 32768 ⌝ }
     ensures { λ s. ⌜ (s ≡ register r 8) × (s < 32768) ⌝ }
 {
-    let mut s = r;
-    let mut i: usize = 0;
-    while i < 8 {
-        s = s * 2 % 32768 + (s / 16384 + s / 1024) % 2;
-        i += 1;
-    }
-    s
+    r % 128 * 256 + ((r / 128) ^ (r / 8)) % 256
 }
 
 fn low_byte(r: u16) -> u8
@@ -73,76 +71,46 @@ fn low_byte(r: u16) -> u8
     (r % 256) as u8
 }
 
+// The first fifteen scrambling bytes of sector n.
+fn first_bytes(n: u32) -> [u8; 2048]
+    ensures { λ r. ⌜ ((i : ℕ) → i < 15 → getD r i 0 ≡ scramblingByte (presetOf n) i) ⌝ }
+{
+    let mut s = [0u8; 2048];
+    let mut r = preset(n);
+    let mut i: usize = 0;
+    while i < 15 {
+        s[i] = low_byte(r);
+        r = eight_shifts(r);
+        i += 1;
+    }
+    s
+}
+
+// All of them: the register's rule, x^15 + x^4 + 1, holds for each eighth bit too, so a byte is the sum of those fifteen and eleven before it.
+fn scrambling_bytes(n: u32) -> [u8; 2048]
+    ensures { λ r. ⌜ r ≡ tabulate (scramblingByte (presetOf n)) 2048 ⌝ }
+{
+    let mut s = first_bytes(n);
+    let mut i: usize = 15;
+    while i < 2048 {
+        s[i] = s[i - 15] ^ s[i - 11];
+        i += 1;
+    }
+    s
+}
+
 // The main data bytes of the frame of sector n, scrambled or unscrambled.
 pub fn scramble(f: [u8; 2064], n: u32) -> [u8; 2064]
     ensures { λ r. ⌜ r ≡ scrambled n f ⌝ }
 {
+    let s = scrambling_bytes(n);
     let mut g = f;
-    let mut r = preset(n);
     let mut q: usize = 12;
     while q < 2060 {
-        g[q] = g[q] ^ low_byte(r);
-        r = eight_shifts(r);
+        g[q] = g[q] ^ s[q - 12];
         q += 1;
     }
     g
-}
-
-// ---- EDC (16.4)
-
-fn edc_bit(r: u32, b: u32) -> u32
-    requires { ⌜ b < 2 ⌝ }
-    ensures { λ s. ⌜ s ≡ edcBit r b ⌝ }
-{
-    let top = (r / 2147483648 + b) % 2;
-    let up = r % 2147483648 * 2;
-    up ^ (top * 0x80000011)
-}
-
-fn wide(x: u8) -> u32
-    ensures { λ r. ⌜ (r ≡ x) × (r < 256) ⌝ }
-{
-    x as u32
-}
-
-fn edc_byte(r: u32, x: u8) -> u32
-    ensures { λ s. ⌜ s ≡ edcBits r x 8 ⌝ }
-{
-    let w = wide(x);
-    let a = edc_bit(r, w / 128 % 2);
-    let b = edc_bit(a, w / 64 % 2);
-    let c = edc_bit(b, w / 32 % 2);
-    let d = edc_bit(c, w / 16 % 2);
-    let e = edc_bit(d, w / 8 % 2);
-    let f = edc_bit(e, w / 4 % 2);
-    let g = edc_bit(f, w / 2 % 2);
-    edc_bit(g, w % 2)
-}
-
-fn edc_number(xs: &[u8]) -> u32
-    ensures { λ r. ⌜ r ≡ edcFrom 0 (now (xs .entry)) ⌝ }
-{
-    let mut r: u32 = 0;
-    let mut i: usize = 0;
-    while i < xs.len() {
-        r = edc_byte(r, xs[i]);
-        i += 1;
-    }
-    r
-}
-
-fn byte(n: u32) -> u8
-    ensures { λ r. ⌜ r ≡ n % 256 ⌝ }
-{
-    (n % 256) as u8
-}
-
-// EDC of the bytes before it.
-fn edc(xs: &[u8]) -> [u8; 4]
-    ensures { λ r. ⌜ r ≡ edcOf (now (xs .entry)) ⌝ }
-{
-    let r = edc_number(xs);
-    [byte(r / 16777216), byte(r / 65536), byte(r / 256), byte(r)]
 }
 
 // ---- the Data Frame (clause 16)
@@ -152,9 +120,9 @@ fn head(t: &[u8; 768], info: u8, n: u32) -> [u8; 12]
     requires { ⌜ LogTable (now t) ⌝ }
     ensures { λ r. ⌜ r ≡ headOf info n ⌝ }
 {
-    let a = byte(n / 65536);
-    let b = byte(n / 256);
-    let c = byte(n);
+    let a = edc::byte(n / 65536);
+    let b = edc::byte(n / 256);
+    let c = edc::byte(n);
     let id = [info, a, b, c];
     let e = reedsolomon::parity2_with(t, &id);
     let x = e[0];
@@ -183,7 +151,8 @@ pub fn data_frame(t: &[u8; 768], d: &[u8], info: u8, n: u32) -> [u8; 2064]
     let mut f = [0u8; 2064];
     put_at(&h, 0, &mut f);
     put_at(d, 12, &mut f);
-    let e = edc(&f[0..2060]);
+    let table = edc::edc_table();
+    let e = edc::edc(&table, &f[0..2060]);
     put_at(&e, 2060, &mut f);
     f
 }
@@ -194,7 +163,7 @@ pub fn data_frame(t: &[u8; 768], d: &[u8], info: u8, n: u32) -> [u8; 2064]
 pub fn sector_number(f: &[u8; 2064]) -> u32
     ensures { λ r. ⌜ r ≡ numberOf (now (f .entry)) ⌝ }
 {
-    wide(f[1]) * 65536 + wide(f[2]) * 256 + wide(f[3])
+    edc::wide(f[1]) * 65536 + edc::wide(f[2]) * 256 + edc::wide(f[3])
 }
 
 // A frame as it was before scrambling.
@@ -269,7 +238,8 @@ fn edc_passes(f: [u8; 2064]) -> bool
     ensures { λ r. ⌜ r ≡ edcPasses f ⌝ }
 {
     let g = unscramble(f);
-    let e = edc(&g[0..2060]);
+    let table = edc::edc_table();
+    let e = edc::edc(&table, &g[0..2060]);
     agrees(&f[2060..2064], &e)
 }
 

@@ -3,3 +3,4 @@ pub mod Staged
 pub mod Refusals
 pub mod Laws
 pub mod Trials
+pub mod Outer

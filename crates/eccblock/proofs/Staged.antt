@@ -12,10 +12,10 @@ use lib.Dec.{ltb}
 use lib.ListN.{length, getD, set, take, drop, length-set, length-drop, List·getD-append}
 use lib.Seq.{getD-set-same, getD-set-other, getD-append-add, getD-take, getD-drop, length-take-le}
 use Rattle.lists.specs.Fill.{tabulate}
-use Rattle.lists.proofs.Fill.{length-tabulate, getD-tabulate, is-tabulate}
+use Rattle.lists.proofs.Fill.{length-tabulate, getD-tabulate, is-tabulate, Upto}
 use Rattle.codes.specs.Parity.{parity}
 use Rattle.eccblock.specs.Block.{recordingRow, originalRow, frame, dataByte, column, codeColumn, row, codeRow, blockByte, block}
-use Rattle.eccblock.specs.Stages.{Stored, framePlace, outerPlace, innerPlace, columnByte, Frames, Columns, Rows}
+use Rattle.eccblock.specs.Stages.{Stored, rowPlace, framePlace, outerPlace, innerPlace, columnByte, outerOf, Frames, Columns, Rows}
 use Rattle.eccblock.proofs.Order.{recording-row, original-low, original-high}
 
 -- ---- bytes stored one after the other, at places that differ
@@ -35,7 +35,59 @@ stored-more at v old new n apart h w = record {
   left = λ p a. getD-set-other new (at n) p (getD v n 0) 0 (a n (omega arith)) ∙ w .left p (λ i l. a i (omega arith));
 }
 
+-- m bytes more, at places that follow one another
+pub stored-row :
+    (at : ℕ → ℕ) (v old mid new : List ℕ) (n m : ℕ) → ((j : ℕ) → j < m → at (n + j) ≡ at n + j) → ((i j : ℕ) → i < n → j < m → at i ≢ at n + j)
+    → Stored at v old mid n → Stored (rowPlace (at n)) (take m (drop n v)) mid new m → Stored at v old new (n + m)
+stored-row at v old mid new n m runs apart w z = record {
+  size = z .size ∙ w .size;
+  done = λ i l. done i l (ltb i n) refl;
+  left = λ p a. z .left p (λ j l e. a (n + j) (omega arith) (e ∙ sym (runs j l))) ∙ w .left p (λ i l. a i (omega arith));
+}
+  where
+    done : (i : ℕ) → i < n + m → (b : Bool) → ltb i n ≡ b → getD new (at i) 0 ≡ getD v i 0
+    done i l true t =
+        let h : i < n = ltb-true i n t in
+        z .left (at i) (λ j k. apart i j h k) ∙ w .done i h
+    done i l false t =
+        let h : n ≤ i = ltb-false i n t in
+        let j : ℕ = i - n in
+        let e : i ≡ n + j = omega arith in
+        let k : j < m = omega arith in
+        ap (λ (x : ℕ). getD new (at x) 0) e ∙ ap (λ (x : ℕ). getD new x 0) (runs j k) ∙ z .done j k
+        ∙ getD-take m (drop n v) j 0 k ∙ getD-drop n v j 0 ∙ ap (λ (x : ℕ). getD v x 0) (sym e)
+
+-- m entries more of a list that is filled from the front on
+pub upto-row :
+    (f : ℕ → ℕ) (old mid new v : List ℕ) (n m : ℕ) → ((j : ℕ) → j < m → getD v j 0 ≡ f (n + j)) → Upto f old mid n → Stored (rowPlace n) v mid new m
+    → Upto f old new (n + m)
+upto-row f old mid new v n m is w z = record {
+  same = z .size ∙ w .same;
+  done = λ i l. done i l (ltb i n) refl;
+  left = λ p a. z .left p (λ j l e. omega (arith, e)) ∙ w .left p (omega arith);
+}
+  where
+    done : (i : ℕ) → i < n + m → (b : Bool) → ltb i n ≡ b → getD new i 0 ≡ f i
+    done i l true t =
+        let h : i < n = ltb-true i n t in
+        z .left i (λ j k e. omega (arith, e)) ∙ w .done i h
+    done i l false t =
+        let h : n ≤ i = ltb-false i n t in
+        let j : ℕ = i - n in
+        let e : i ≡ n + j = omega arith in
+        let k : j < m = omega arith in
+        ap (λ (x : ℕ). getD new x 0) e ∙ z .done j k ∙ is j k ∙ ap f (sym e)
+
 -- ---- frames
+
+-- row r of a frame
+pub frame-row : (k r j : ℕ) → j < 172 → framePlace k (172 * r + j) ≡ framePlace k (172 * r) + j
+frame-row k r j h =
+    let a : (172 * r + j) / 172 ≡ r = omega arith in
+    let b : (172 * r + j) % 172 ≡ j = omega arith in
+    let c : 172 * r / 172 ≡ r = omega arith in
+    let d : 172 * r % 172 ≡ 0 = omega arith in
+    rw (a, b, c, d) (omega arith)
 
 pub frame-apart : (k i q : ℕ) → i < q → framePlace k i ≢ framePlace k q
 frame-apart k i q h e = omega arith
@@ -45,6 +97,20 @@ frame-other i k p q n h l e = n (omega arith)
 
 pub frame-lt : (k q : ℕ) → k < 16 → q < 2064 → framePlace k q < 37856
 frame-lt k q h l = omega arith
+
+-- one row more of a frame that is stored
+pub frame-more :
+    (k r : ℕ) (f old mid new : List ℕ) → length f ≡ 2064 → r < 12
+    → Stored (rowPlace ((13 * k + r) * 182)) (take (172 * r + 172 - 172 * r) (drop (172 * r) f)) mid new (length (take (172 * r + 172 - 172 * r) (drop (172 * r) f)))
+    → Stored (framePlace k) f old mid (172 * r) → Stored (framePlace k) f old new (172 * (r + 1))
+frame-more k r f old mid new len h z w =
+    let e : 172 * r + 172 - 172 * r ≡ 172 = omega arith in
+    let l : length (take 172 (drop (172 * r) f)) ≡ 172 = length-take-le 172 (drop (172 * r) f) (rw length-drop (omega arith)) in
+    let p : (13 * k + r) * 182 ≡ framePlace k (172 * r) = omega arith in
+    let n : 172 * (r + 1) ≡ 172 * r + 172 = omega arith in
+    rw n
+    (stored-row (framePlace k) f old mid new (172 * r) 172 (λ j m. frame-row k r j m)
+    (λ i j m t q. frame-apart k i (172 * r + j) (omega arith) (q ∙ sym (frame-row k r j t))) w (rw (e, l, p) at z))
 
 pub frames-none : (main : List ℕ) (first info : ℕ) (new : List ℕ) → length new ≡ 37856 → Frames main first info 0 new
 frames-none main first info new e = record { size = e; done = λ k q l h. absurd (omega arith) }
@@ -104,10 +170,10 @@ pub columns-none : (main : List ℕ) (first info : ℕ) (xs : List ℕ) → Fram
 columns-none main first info xs v = record { frames = v; done = λ j i l h. absurd (omega arith) }
 
 pub columns-more :
-    (main : List ℕ) (first info j : ℕ) (p old new : List ℕ) → j < 172 → p ≡ parity 16 (tabulate (columnByte old j) 192)
+    (main : List ℕ) (first info j : ℕ) (start p old new : List ℕ) → j < 172 → Frames main first info 16 start → p ≡ outerOf start j
     → Stored (outerPlace j) p old new 16 → Columns main first info j old → Columns main first info (j + 1) new
-columns-more main first info j p old new hj e w v =
-    let f : p ≡ parity 16 (column main first info j) = e ∙ ap (parity 16) (column-is main first info j old hj (v .frames)) in
+columns-more main first info j start p old new hj u e w v =
+    let f : p ≡ parity 16 (column main first info j) = e ∙ ap (parity 16) (column-is main first info j start hj u) in
     record {
       frames = record {
         size = w .size ∙ v .frames .size;
@@ -223,3 +289,20 @@ module _ (main : List ℕ) (first info : ℕ) where
 -- byte q of frame k of a block buffer
 pub frame-of-byte : (xs : List ℕ) (k q : ℕ) → k < 16 → q < 2064 → getD xs (framePlace k q) 0 ≡ getD xs (recordingRow (12 * k + q / 172) * 182 + q % 172) 0
 frame-of-byte xs k q h l = ap (λ (x : ℕ). getD xs (x * 182 + q % 172) 0) (sym (recording-row k (q / 172) h (omega arith)))
+
+-- one row more of a frame that is read
+pub frame-read :
+    (xs : List ℕ) (k r : ℕ) (old mid new : List ℕ) → length xs ≡ 37856 → k < 16 → r < 12
+    → Stored (rowPlace (172 * r)) (take ((13 * k + r) * 182 + 172 - (13 * k + r) * 182) (drop ((13 * k + r) * 182) xs)) mid new
+    (length (take ((13 * k + r) * 182 + 172 - (13 * k + r) * 182) (drop ((13 * k + r) * 182) xs)))
+    → Upto (λ q. getD xs (recordingRow (12 * k + q / 172) * 182 + q % 172) 0) old mid (172 * r)
+    → Upto (λ q. getD xs (recordingRow (12 * k + q / 172) * 182 + q % 172) 0) old new (172 * (r + 1))
+frame-read xs k r old mid new len hk hr z w =
+    let a : ℕ = (13 * k + r) * 182 in
+    let e : a + 172 - a ≡ 172 = omega arith in
+    let l : length (take 172 (drop a xs)) ≡ 172 = length-take-le 172 (drop a xs) (rw length-drop (omega arith)) in
+    let n : 172 * (r + 1) ≡ 172 * r + 172 = omega arith in
+    rw n
+    (upto-row (λ q. getD xs (recordingRow (12 * k + q / 172) * 182 + q % 172) 0) old mid new (take 172 (drop a xs)) (172 * r) 172
+    (λ j m. getD-take 172 (drop a xs) j 0 m ∙ getD-drop a xs j 0 ∙ ap (λ (x : ℕ). getD xs x 0) (frame-place k r j m)
+    ∙ frame-of-byte xs k (172 * r + j) hk (omega arith)) w (rw (e, l) at z))

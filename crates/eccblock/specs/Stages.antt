@@ -6,6 +6,7 @@ use mathlib.Core.Path.{_≡_}
 use mathlib.Core.Logic.{_≢_}
 use Prim.Native.Nat.{ℕ, _+_, _*_, _/_, _%_, _<_}
 use lib.ListN.{length, getD}
+use Rattle.lists.specs.Fill.{tabulate}
 use Rattle.codes.specs.Parity.{parity}
 use Rattle.eccblock.specs.Block.{originalRow, frame, column, codeColumn, row}
 
@@ -14,6 +15,10 @@ pub record Stored (at : ℕ → ℕ) (v old new : List ℕ) (n : ℕ) : Type 0 w
   pub size : length new ≡ length old
   pub done : (i : ℕ) → i < n → getD new (at i) 0 ≡ getD v i 0
   pub left : (p : ℕ) → ((i : ℕ) → i < n → p ≢ at i) → getD new p 0 ≡ getD old p 0
+
+-- where byte j of bytes that follow one another from a place on stands
+abbrev pub rowPlace : ℕ → ℕ → ℕ
+rowPlace p j = p + j
 
 -- where byte q of frame k stands
 abbrev pub framePlace : ℕ → ℕ → ℕ
@@ -30,6 +35,10 @@ innerPlace q i = q * 182 + (172 + i)
 -- byte i of column j of the 192 rows
 unfoldable pub columnByte : List ℕ → ℕ → ℕ → ℕ
 columnByte xs j i = getD xs ((i + i / 12) * 182 + j) 0
+
+-- the outer parity of column j, of whatever stands in its 192 rows
+abbrev pub outerOf : List ℕ → ℕ → List ℕ
+outerOf xs j = parity 16 (tabulate (columnByte xs j) 192)
 
 -- the first n frames stand in their rows
 pub record Frames (main : List ℕ) (first info n : ℕ) (new : List ℕ) : Type 0 where

@@ -1,15 +1,15 @@
-// The block maker (ECMA-268, clauses 16 to 19; document 01, 'The block'): 32,768 main data bytes to an ECC Block of 37,856 bytes in recording order. The table of
-// logarithms is made once a block and lent from there on.
+// The block maker (ECMA-268, clauses 16 to 19; document 01, 'The block'): 32,768 main data bytes to an ECC Block of 37,856 bytes in recording order. The tables are
+// made once a block and lent from there on.
 ghost use mathlib.Core.Path.{_≡_};
 ghost use mathlib.Core.List.{List};
-ghost use Prim.Native.Nat.{ℕ, _<_, _≤_};
+ghost use Prim.Native.Nat.{ℕ, _+_, _<_, _≤_};
 ghost use lib.ListN.{length};
-ghost use Rattle.lists.specs.Fill.{tabulate};
 ghost use Rattle.field.specs.Tables.{LogTable};
+ghost use Rattle.division.specs.Packed.{multiples, Beside};
 ghost use Rattle.eccblock.specs.Block.{frame, block};
 ghost use Rattle.eccblock.specs.Parts.{frameOf};
 ghost use Rattle.eccblock.specs.Encode.{encodeRefusal, encodeNumber, encodedBuffer};
-ghost use Rattle.eccblock.specs.Stages.{Stored, framePlace, outerPlace, innerPlace, columnByte, Frames, Columns, Rows};
+ghost use Rattle.eccblock.specs.Stages.{Stored, rowPlace, framePlace, outerPlace, innerPlace, outerOf, Frames, Columns, Rows};
 
 // What the block maker answers. Document 01's number of each is `encodeNumber`.
 pub enum Encoded {
@@ -33,14 +33,29 @@ fn scrambled_frame(t: &[u8; 768], main: &[u8], first: u32, info: u8, k: usize) -
     dataframe::scramble(f, n)
 }
 
-fn store_frame(f: &[u8; 2064], k: usize, out: &mut [u8])
-    requires { ⌜ (k < 16) × (length (now out) ≡ 37856) ⌝ }
+// Bytes one after the other, from the place at on.
+fn copy_row(s: &[u8], at: usize, out: &mut [u8])
+    requires { ⌜ at + length (now s) ≤ length (now out) ⌝ }
+    ensures { λ r. ⌜ Stored (rowPlace at) (now (s .entry)) (now (out .entry)) (now (out .exit)) (length (now (s .entry))) ⌝ }
+{
+    let mut j: usize = 0;
+    while j < s.len() {
+        out[at + j] = s[j];
+        j += 1;
+    }
+}
+
+// Twelve rows of 172 bytes.
+fn store_frame(f: &[u8], k: usize, out: &mut [u8])
+    requires { ⌜ (length (now f) ≡ 2064) × (k < 16) × (length (now out) ≡ 37856) ⌝ }
     ensures { λ r. ⌜ Stored (framePlace k) (now (f .entry)) (now (out .entry)) (now (out .exit)) 2064 ⌝ }
 {
-    let mut q: usize = 0;
-    while q < 2064 {
-        out[(13 * k + q / 172) * 182 + q % 172] = f[q];
-        q += 1;
+    let mut r: usize = 0;
+    while r < 12 {
+        let start = 172 * r;
+        let end = start + 172;
+        copy_row(&f[start..end], (13 * k + r) * 182, out);
+        r += 1;
     }
 }
 
@@ -58,17 +73,20 @@ fn store_frames(t: &[u8; 768], main: &[u8], first: u32, info: u8, out: &mut [u8]
 
 // ---- outer parity: 16 bytes for each of the 172 columns
 
-fn column_of(out: &[u8], j: usize) -> [u8; 192]
-    requires { ⌜ (length (now out) ≡ 37856) × (j < 172) ⌝ }
-    ensures { λ r. ⌜ r ≡ tabulate (columnByte (now (out .entry)) j) 192 ⌝ }
+// The registers of all columns, side by side, after the 192 rows in their order before they were moved.
+fn outer_registers(m: &[u64; 512], out: &[u8]) -> [u64; 344]
+    requires { ⌜ (now m ≡ multiples 16) × (length (now out) ≡ 37856) ⌝ }
+    ensures { λ r. ⌜ Beside 16 (outerOf (now (out .entry))) 172 r ⌝ }
 {
-    let mut c = [0u8; 192];
+    let mut regs = [0u64; 344];
     let mut i: usize = 0;
     while i < 192 {
-        c[i] = out[(i + i / 12) * 182 + j];
+        let at = (i + i / 12) * 182;
+        let end = at + 172;
+        division::shift_row(m, &out[at..end], &mut regs);
         i += 1;
     }
-    c
+    regs
 }
 
 fn store_outer(p: &[u8; 16], j: usize, out: &mut [u8])
@@ -82,14 +100,16 @@ fn store_outer(p: &[u8; 16], j: usize, out: &mut [u8])
     }
 }
 
-fn add_outer(t: &[u8; 768], out: &mut [u8])
-    requires { ⌜ LogTable (now t) × (length (now out) ≡ 37856) ⌝ }
+fn add_outer(m: &[u64; 512], out: &mut [u8])
+    requires { ⌜ (now m ≡ multiples 16) × (length (now out) ≡ 37856) ⌝ }
     ensures { λ r. ⌜ (length (now (out .exit)) ≡ 37856) × ((main : List ℕ) (first info : ℕ) → Frames main first info 16 (now (out .entry)) → Columns main first info 172 (now (out .exit))) ⌝ }
 {
+    let regs = outer_registers(m, out);
     let mut j: usize = 0;
     while j < 172 {
-        let c = column_of(out, j);
-        let p = reedsolomon::parity16_with(t, &c);
+        let a = 2 * j;
+        let b = a + 1;
+        let p = division::unpack(regs[a], regs[b]);
         store_outer(&p, j, out);
         j += 1;
     }
@@ -108,15 +128,15 @@ fn store_inner(p: &[u8; 10], q: usize, out: &mut [u8])
     }
 }
 
-fn add_inner(t: &[u8; 768], out: &mut [u8])
-    requires { ⌜ LogTable (now t) × (length (now out) ≡ 37856) ⌝ }
+fn add_inner(m: &[u64; 512], out: &mut [u8])
+    requires { ⌜ (now m ≡ multiples 10) × (length (now out) ≡ 37856) ⌝ }
     ensures { λ r. ⌜ (length (now (out .exit)) ≡ 37856) × ((main : List ℕ) (first info : ℕ) → Rows main first info 0 (now (out .entry)) → Rows main first info 208 (now (out .exit))) ⌝ }
 {
     let mut q: usize = 0;
     while q < 208 {
         let at = q * 182;
         let end = at + 172;
-        let p = reedsolomon::parity10_with(t, &out[at..end]);
+        let p = division::parity10_with(m, &out[at..end]);
         store_inner(&p, q, out);
         q += 1;
     }
@@ -130,8 +150,10 @@ fn fill_block(main: &[u8], first: u32, info: u8, out: &mut [u8])
 {
     let t = field::log_table();
     store_frames(&t, main, first, info, out);
-    add_outer(&t, out);
-    add_inner(&t, out);
+    let outer = division::multiples16();
+    add_outer(&outer, out);
+    let inner = division::multiples10();
+    add_inner(&inner, out);
 }
 
 // The block maker. Where it refuses, the buffer is left as it was.
@@ -177,10 +199,12 @@ pub fn frame_at(b: &[u8], k: usize) -> [u8; 2064]
     ensures { λ r. ⌜ r ≡ frameOf (now (b .entry)) k ⌝ }
 {
     let mut f = [0u8; 2064];
-    let mut q: usize = 0;
-    while q < 2064 {
-        f[q] = b[(13 * k + q / 172) * 182 + q % 172];
-        q += 1;
+    let mut r: usize = 0;
+    while r < 12 {
+        let start = (13 * k + r) * 182;
+        let end = start + 172;
+        copy_row(&b[start..end], 172 * r, &mut f);
+        r += 1;
     }
     f
 }

@@ -1,26 +1,39 @@
 -- One turn of each of the sector reader's loops: a word that was judged, and a SYNC place that was looked at.
 -- Assumes nothing.
-use mathlib.Core.Path.{_≡_, sym, ap}
+use mathlib.Core.Path.{_≡_, refl, sym, ap, _∙_}
 use mathlib.Core.Bool.{Bool, not}
 use mathlib.Core.List.{List}
-use Prim.Native.Nat.{ℕ, _+_, _*_}
+use Prim.Native.Nat.{ℕ, _+_, _*_, _/_, _%_}
+use native.Mathlib.Omega.{arith}
+use Rattle.lists.specs.Count.{bit}
 use Rattle.annexg.specs.Read.{readWord}
+use Rattle.annexg.specs.Index.{readingNumber}
 use Rattle.annexg.specs.declared.Reading.{Reading}
+use Rattle.annexg.specs.declared.Reading.the-variants.{Byte, Unknown}
 use Rattle.channel.specs.Block.{codeOf, byteOf, halfOf, halfAt, readAt}
 use Rattle.reader.specs.Sector.{isUnknown, unknownAt, isSync, lostSync}
 
--- byte i's word w and the half word f after it were read as r
-module _ (xs : List ℕ) (i w f : ℕ) (r : Reading) (hw : w ≡ halfAt xs (halfOf i)) (hf : f ≡ halfAt xs (halfOf i + 1)) (hr : r ≡ readWord w f) where
-  word-is : r ≡ readWord (halfAt xs (halfOf i)) (halfAt xs (halfOf i + 1))
-  word-is = rw (← hw, ← hf) hr
+-- a reading's byte and whether it is unknown, from its number
+number-byte : (r : Reading) → readingNumber r / 2 ≡ byteOf r
+number-byte (Byte b) = omega arith
+number-byte Unknown = refl
 
-  pub byte-is : byteOf r ≡ readAt xs i
+number-unknown : (r : Reading) → readingNumber r % 2 ≡ bit (isUnknown r)
+number-unknown (Byte b) = omega arith
+number-unknown Unknown = refl
+
+-- byte i's word w and the half word f after it were read as the number n
+module _ (xs : List ℕ) (i w f n : ℕ) (hw : w ≡ halfAt xs (halfOf i)) (hf : f ≡ halfAt xs (halfOf i + 1)) (hn : n ≡ readingNumber (readWord w f)) where
+  number-is : n ≡ readingNumber (readWord (halfAt xs (halfOf i)) (halfAt xs (halfOf i + 1)))
+  number-is = rw (← hw, ← hf) hn
+
+  pub byte-is : n / 2 ≡ readAt xs i
   unfolding readAt
-  byte-is = ap byteOf word-is
+  byte-is = ap (λ (k : ℕ). k / 2) number-is ∙ number-byte (readWord (halfAt xs (halfOf i)) (halfAt xs (halfOf i + 1)))
 
-  pub unknown-is : isUnknown r ≡ unknownAt xs i
+  pub unknown-is : n % 2 ≡ bit (unknownAt xs i)
   unfolding unknownAt
-  unknown-is = ap isUnknown word-is
+  unknown-is = ap (λ (k : ℕ). k % 2) number-is ∙ number-unknown (readWord (halfAt xs (halfOf i)) (halfAt xs (halfOf i + 1)))
 
 -- the half words a and b of frame f's SYNC place are, or are not, SYn
 pub place-is :

@@ -5,10 +5,10 @@ ghost use Prim.Native.Nat.{_+_, _*_, _≤_};
 ghost use lib.ListN.{length};
 ghost use Rattle.lists.specs.Count.{bit};
 ghost use Rattle.annexg.specs.Read.{tableOf};
+ghost use Rattle.annexg.specs.Index.{wordIndex};
 ghost use Rattle.annexg.specs.Sync.{syncTable};
-ghost use Rattle.channel.specs.Block.{frameCodes, codeOf, byteOf, halfAt, readSector};
-ghost use Rattle.reader.specs.Sector.{isUnknown, isSync, lostSync, unknownTally, syncTally, sectorAnswer, sectorAfter, sectorNumber};
-use annexg::Reading;
+ghost use Rattle.channel.specs.Block.{frameCodes, codeOf, halfAt, readSector};
+ghost use Rattle.reader.specs.Sector.{isSync, lostSync, unknownTally, syncTally, sectorAnswer, sectorAfter, sectorNumber};
 
 // What the sector reader answers. Document 01's number of each is `sectorNumber`.
 pub enum SectorRead {
@@ -31,40 +31,27 @@ fn half(stream: &[u8], k: usize) -> u16
 
 // ---- the words
 
-// An unknown word gives byte 0.
-fn byte_of(r: Reading) -> u8
-    ensures { λ b. ⌜ b ≡ byteOf r ⌝ }
-{
-    match r {
-        Reading::Byte(b) => b,
-        Reading::Unknown => 0,
-    }
-}
-
-// What a word adds to the tally.
-fn unknown_of(r: Reading) -> u32
-    ensures { λ n. ⌜ (n ≡ bit (isUnknown r)) × (n ≤ 1) ⌝ }
-{
-    match r {
-        Reading::Byte(_) => 0,
-        Reading::Unknown => 1,
-    }
-}
-
 // Every word is judged with the half word after it: for the last word of a frame that is a SYNC Code's, and for the sector's last word the two bytes after the sector.
-fn read_bytes(m: &[u32; 1024], u: &[u32; 352], stream: &[u8], out: &mut [u8]) -> u32
-    requires { ⌜ (now m ≡ tableOf 0) × (now u ≡ tableOf 1) × (length (now stream) ≡ 4838) × (length (now out) ≡ 2366) ⌝ }
+fn read_bytes(
+    m: &[u32; 1024],
+    u: &[u32; 352],
+    x: &[u32; 8192],
+    stream: &[u8],
+    out: &mut [u8],
+) -> u32
+    requires { ⌜ (now m ≡ tableOf 0) × (now u ≡ tableOf 1) × (now x ≡ wordIndex) × (length (now stream) ≡ 4838) × (length (now out) ≡ 2366) ⌝ }
     ensures { λ r. ⌜ (r ≡ unknownTally (now (stream .entry))) × (now (out .exit) ≡ readSector (now (stream .entry))) ⌝ }
 {
     let mut unknown: u32 = 0;
     let mut i: usize = 0;
     while i < 2366 {
-        let k = i / 91 * 93 + 2 + i % 91;
+        // i / 91 * 93 + 2 + i % 91
+        let k = i + 2 * (i / 91) + 2;
         let w = half(stream, k);
         let f = half(stream, k + 1);
-        let r = annexg::read_with(m, u, w, f);
-        out[i] = byte_of(r);
-        unknown += unknown_of(r);
+        let r = annexg::read_indexed(m, u, x, w, f);
+        out[i] = (r / 2) as u8;
+        unknown += r % 2;
         i += 1;
     }
     unknown
@@ -173,11 +160,12 @@ fn lost_syncs(y: &[u16; 32], stream: &[u8]) -> u32
 pub fn read_sector_with(
     m: &[u32; 1024],
     u: &[u32; 352],
+    x: &[u32; 8192],
     y: &[u16; 32],
     stream: &[u8],
     out: &mut [u8],
 ) -> SectorRead
-    requires { ⌜ (now m ≡ tableOf 0) × (now u ≡ tableOf 1) × (now y ≡ syncTable) ⌝ }
+    requires { ⌜ (now m ≡ tableOf 0) × (now u ≡ tableOf 1) × (now x ≡ wordIndex) × (now y ≡ syncTable) ⌝ }
     ensures { λ r. ⌜ (r ≡ sectorAnswer (now (stream .entry)) (length (now (out .entry)))) × (now (out .exit) ≡ sectorAfter (now (stream .entry)) (now (out .entry))) ⌝ }
 {
     if stream.len() != 4838 {
@@ -186,7 +174,7 @@ pub fn read_sector_with(
     if out.len() != 2366 {
         return SectorRead::LengthRefused;
     }
-    let unknown = read_bytes(m, u, stream, out);
+    let unknown = read_bytes(m, u, x, stream, out);
     let sync = lost_syncs(y, stream);
     SectorRead::Sector { unknown, sync }
 }
@@ -197,8 +185,9 @@ pub fn read_sector(stream: &[u8], out: &mut [u8]) -> SectorRead
 {
     let m = annexg::main_table();
     let u = annexg::sub_table();
+    let x = annexg::word_index(&m, &u);
     let y = annexg::sync_table();
-    read_sector_with(&m, &u, &y, stream, out)
+    read_sector_with(&m, &u, &x, &y, stream, out)
 }
 
 // Document 01's number of an answer, 0 where nothing is refused.

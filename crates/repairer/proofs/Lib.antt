@@ -1,3 +1,5 @@
+pub mod CleanLaws
+pub mod DivisionLaws
 pub mod Parts
 pub mod Counting
 pub mod RowLaws

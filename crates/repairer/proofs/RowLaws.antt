@@ -6,7 +6,9 @@ use Prim.Native.Nat.{ℕ, _+_, _*_, _/_, _%_, _<_}
 use native.Mathlib.Omega.{arith}
 use lib.ListN.{length, getD, drop, length-drop}
 use lib.Seq.{getD-take, getD-drop, length-take-le}
+use Rattle.lists.specs.Bytes.{Bytes}
 use Rattle.lists.specs.Fill.{tabulate}
+use Rattle.lists.proofs.Bytes.{bytes-of, take-bytes, drop-bytes}
 use Rattle.lists.proofs.Fill.{Upto, upto-all, is-tabulate, tabulate-same}
 use Rattle.codes.specs.Nearest.{nearest}
 use Rattle.eccblock.specs.Stages.{Stored}
@@ -15,11 +17,19 @@ use Rattle.repairer.specs.Repair.{rowsRepaired}
 use Rattle.repairer.specs.Steps.{rowPlace}
 use Rattle.repairer.proofs.Parts.{upto-part}
 
+pub row-length : (xs : List ℕ) (q : ℕ) → length xs ≡ 37856 → q < 208 → length (rowOf xs q) ≡ 182
+row-length xs q e h = length-take-le 182 (drop (q * 182) xs) (rw length-drop (omega arith))
+
+pub row-bytes : (xs : List ℕ) → ((k : ℕ) → getD xs k 0 < 256) → (q : ℕ) → Bytes (rowOf xs q)
+row-bytes xs h q = take-bytes 182 (drop (q * 182) xs) (drop-bytes (q * 182) xs (bytes-of xs (λ k l. h k)))
+
+pub row-byte : (xs : List ℕ) (q i : ℕ) → i < 182 → getD (rowOf xs q) i 0 ≡ getD xs (rowPlace q i) 0
+row-byte xs q i l = getD-take 182 (drop (q * 182) xs) i 0 l ∙ getD-drop (q * 182) xs i 0
+
 -- a row, byte by byte
 pub row-tabulate : (xs : List ℕ) (q : ℕ) → length xs ≡ 37856 → q < 208 → rowOf xs q ≡ tabulate (λ i. getD xs (rowPlace q i) 0) 182
 row-tabulate xs q e h =
-    is-tabulate (λ i. getD xs (rowPlace q i) 0) (rowOf xs q) 182 (length-take-le 182 (drop (q * 182) xs) (rw length-drop (omega arith)))
-    (λ i l. getD-take 182 (drop (q * 182) xs) i 0 l ∙ getD-drop (q * 182) xs i 0)
+    is-tabulate (λ i. getD xs (rowPlace q i) 0) (rowOf xs q) 182 (row-length xs q e h) (row-byte xs q)
 
 -- the byte p of the block after the rows' repair
 abbrev pub rowByte : List ℕ → ℕ → ℕ

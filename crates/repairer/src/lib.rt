@@ -63,7 +63,7 @@ pub fn repair_number(r: Repaired) -> u8
     }
 }
 
-// The block repairer. The table of logarithms is made once a block and lent from there on. The main data buffer is written only when every frame has passed.
+// The block repairer. The tables are made once a block and lent from there on. The main data buffer is written only when every frame has passed.
 pub fn repair_block(block: &mut [u8], main: &mut [u8]) -> Repaired
     ensures { λ r. ⌜ (r ≡ repairAnswer (now (block .entry)) (length (now (main .entry)))) × (now (block .exit) ≡ blockAfter (now (block .entry)) (length (now (main .entry)))) × (now (main .exit) ≡ mainAfter (now (block .entry)) (now (main .entry))) ⌝ }
 {
@@ -74,8 +74,10 @@ pub fn repair_block(block: &mut [u8], main: &mut [u8]) -> Repaired
         return Repaired::LengthRefused;
     }
     let t = field::log_table();
-    let rows = rows::repair_rows(&t, block);
-    let columns = columns::repair_columns(&t, block);
+    let inner = division::multiples10();
+    let rows = rows::repair_rows(&t, &inner, block);
+    let outer = division::multiples16();
+    let columns = columns::repair_columns(&t, &outer, block);
     let answer = frames::judge_frames(&t, block, Tallies { rows, columns });
     if repair_number(answer) != 0 {
         return answer;

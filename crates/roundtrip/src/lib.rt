@@ -3,6 +3,7 @@ ghost use mathlib.Core.Path.{_≡_};
 ghost use Prim.Native.Nat.{_+_, _<_, _≤_};
 ghost use lib.ListN.{length};
 ghost use Rattle.annexg.specs.Read.{tableOf};
+ghost use Rattle.annexg.specs.Index.{wordIndex};
 ghost use Rattle.annexg.specs.Sync.{syncTable};
 ghost use Rattle.channel.specs.Block.{readBlock};
 ghost use Rattle.reader.specs.Sector.{unknownTally, syncTally};
@@ -58,6 +59,7 @@ fn read_sectors(stream: &[u8], block: &mut [u8]) -> Sums
 {
     let m = annexg::main_table();
     let u = annexg::sub_table();
+    let x = annexg::word_index(&m, &u);
     let y = annexg::sync_table();
     let mut s = Sums {
         unknown: 0,
@@ -69,7 +71,7 @@ fn read_sectors(stream: &[u8], block: &mut [u8]) -> Sums
         let to = from + 4838;
         let at = 2366 * k;
         let end = at + 2366;
-        let r = reader::read_sector_with(&m, &u, &y, &stream[from..to], &mut block[at..end]);
+        let r = reader::read_sector_with(&m, &u, &x, &y, &stream[from..to], &mut block[at..end]);
         s = s.with(r);
         k += 1;
     }

@@ -1,6 +1,6 @@
 -- `dataframe::data_frame` meets its contract: head, main data and EDC, put in one after the other. Assumes nothing.
-use Rattle.dataframe.proofs.Framed.{data-built}
 use mathlib.Core.Path.{refl}
+use Rattle.dataframe.proofs.Framed.{data-built}
 use borrow.Author.Needs.{needs}
 use Rattle.dataframe.proofs.data_frame.Statement.{statement}
 use Rattle.dataframe.proofs.data_frame.Tie as tie
@@ -22,6 +22,9 @@ slice-aggregate-put-at-3 c = search needs
 
 put-at-requires-2 : tie.Need-put-at-requires-2
 put-at-requires-2 c κs = search needs
+
+edc-table-requires : tie.Need-edc-table-requires
+edc-table-requires c κs = search needs
 
 sub-edc : tie.Need-sub-edc
 sub-edc c = search needs
@@ -46,7 +49,7 @@ put-at-requires-3 c κs = search needs
 
 returns : tie.Need-returns
 returns c =
-    data-built _ _ _ (c .before .before .before .before .before .before .before .before .before .before .before .before .before .before .before .before .pre .1) _ _ _ _ _ _ refl (c .before .before .before .before .before .before .before .before .before .before .before .before .before .before .head .ensures) (c .before .before .before .before .before .before .before .before .before .before .before .put-at .ensures) (c .before .before .before .before .before .before .before .before .put-at2 .ensures) (c .before .before .before .before .edc .ensures)
+    data-built _ _ _ (c .before .before .before .before .before .before .before .before .before .before .before .before .before .before .before .before .before .before .pre .1) _ _ _ _ _ _ refl (c .before .before .before .before .before .before .before .before .before .before .before .before .before .before .before .before .head .ensures) (c .before .before .before .before .before .before .before .before .before .before .before .before .before .put-at .ensures) (c .before .before .before .before .before .before .before .before .before .before .put-at2 .ensures) (c .before .before .before .before .edc .ensures)
     (c .before .put-at3 .ensures)
 
 pub data-frame-spec : {M : Type 1} → statement M
@@ -59,6 +62,7 @@ data-frame-spec =
     put-at-requires
     slice-aggregate-put-at-3
     put-at-requires-2
+    edc-table-requires
     sub-edc
     part-edc-start
     part-edc-end

@@ -1,18 +1,21 @@
 -- `dataframe::edc_passes` meets its contract. Assumes nothing.
 use mathlib.Core.Path.{_≡_, ap, ap₂, _∙_}
 use mathlib.Core.List.{List}
-use Prim.Native.Nat.{ℕ}
 use lib.ListN.{length, take, drop, length-drop}
 use lib.Seq.{take-all}
 use Rattle.dataframe.specs.Frame.{edcOf}
 use Rattle.dataframe.specs.Checks.{agree, edcPasses}
-use borrow.Author.Needs.{needs}
+use Prim.Native.Nat.{ℕ}
 use native.Mathlib.Omega.{arith}
+use borrow.Author.Needs.{needs}
 use Rattle.dataframe.proofs.edc_passes.Statement.{statement}
 use Rattle.dataframe.proofs.edc_passes.Tie as tie
 
 unscramble-requires : tie.Need-unscramble-requires
 unscramble-requires c κs = search needs
+
+edc-table-requires : tie.Need-edc-table-requires
+edc-table-requires c κs = search needs
 
 sub-edc : tie.Need-sub-edc
 sub-edc c = search needs
@@ -44,17 +47,17 @@ agrees-requires c κs = search needs
 returns : tie.Need-returns
 unfolding edcPasses
 returns c =
-    let f = c .before .before .before .before .before .before .before .before .args .t1 in
+    let f = c .before .before .before .before .before .before .before .before .before .before .args .t1 in
     let len : length f ≡ 2064 = search needs in
     let a : take 4 (drop 2060 f) ≡ drop 2060 f = take-all 4 (drop 2060 f) (rw length-drop (omega arith)) in
-    c .agrees .ensures
-    ∙ ap₂ agree a (c .before .before .before .before .edc .ensures ∙ ap (λ (x : List ℕ). edcOf (take 2060 x)) (c .before .before .before .before .before .before .before .unscramble .ensures))
+    c .agrees .ensures ∙ ap₂ agree a (c .before .before .before .before .edc .ensures ∙ ap (λ (x : List ℕ). edcOf (take 2060 x)) (c .before .before .before .before .before .before .before .before .before .unscramble .ensures))
 
 pub edc-passes-spec : {M : Type 1} → statement M
 edc-passes-spec =
     tie.close
     (tie.spec
     unscramble-requires
+    edc-table-requires
     sub-edc
     part-edc-start
     part-edc-end

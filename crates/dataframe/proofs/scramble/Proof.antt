@@ -1,41 +1,41 @@
--- `dataframe::scramble` meets its contract: each turn scrambles one byte, and the register is the one before it. Assumes nothing.
+-- `dataframe::scramble` meets its contract: each turn scrambles one byte. Assumes nothing.
 use mathlib.Core.Path.{_≡_, ap, ap₂, sym, _∙_}
-use Prim.Native.Nat.{ℕ, _≤_, _<_, _-_, _+_, _*_}
+use mathlib.Core.List.{List}
+use Prim.Native.Nat.{ℕ, _≤_, _-_}
 use lib.Bits.{bitXor}
-use Rattle.lists.proofs.Fill.{Upto, upto-more, upto-all}
-use Rattle.field.specs.Field.{add}
-use Rattle.dataframe.specs.Scrambling.{presetOf, register, scrambledAt}
-use Rattle.dataframe.proofs.Scrambled.{register-add, scrambled-main, scramble-start, scramble-end}
+use lib.ListN.{length, getD}
 use borrow.Author.Needs.{needs}
-use lib.ListN.{length}
 use native.Mathlib.Omega.{arith}
+use Rattle.lists.proofs.Fill.{Upto, upto-more, upto-all, getD-tabulate}
+use Rattle.field.specs.Field.{add}
+use Rattle.dataframe.specs.Scrambling.{presetOf, scramblingByte, scrambledAt}
+use Rattle.dataframe.proofs.Scrambled.{scrambled-main, scramble-start, scramble-end}
 use Rattle.dataframe.proofs.scramble.Statement.{statement}
 use Rattle.dataframe.proofs.scramble.Tie as tie
 
 abbrev Inv-loop : tie.InvT-loop
-Inv-loop n g₀ r₀ q₀ g r q = (12 ≤ q) × (q ≤ 2060) × (r < 32768) × (r ≡ register (presetOf n) (8 * (q - 12))) × (length g₀ ≡ 2064) × Upto (scrambledAt n g₀) g₀ g q
+Inv-loop n s g₀ q₀ g q = (12 ≤ q) × (q ≤ 2060) × (length g₀ ≡ 2064) × Upto (scrambledAt n g₀) g₀ g q
 
 abbrev μ-loop : tie.MeasureT-loop
-μ-loop n g₀ r₀ q₀ g r q = 2060 - q
+μ-loop n s g₀ q₀ g q = 2060 - q
 
-preset-requires : tie.Need-preset-requires Inv-loop μ-loop
-preset-requires c κs = search needs
+scrambling-bytes-requires : tie.Need-scrambling-bytes-requires Inv-loop μ-loop
+scrambling-bytes-requires c κs = search needs
 
 loop-holds : tie.Need-loop-holds Inv-loop μ-loop
-unfolding register
-loop-holds c = (omega arith, omega arith, c .preset .ensures .1, c .preset .ensures .0, search needs, scramble-start (c .before .args .n) (c .before .args .f))
+loop-holds c = (omega arith, omega arith, search needs, scramble-start (c .before .args .n) (c .before .args .f))
 
 array-read-g : tie.Need-array-read-g Inv-loop μ-loop
 array-read-g c = omega arith
 
-low-byte-requires : tie.Need-low-byte-requires Inv-loop μ-loop
-low-byte-requires c κs = search needs
+sub-g : tie.Need-sub-g Inv-loop μ-loop
+sub-g c = omega arith
+
+array-read-g-2 : tie.Need-array-read-g-2 Inv-loop μ-loop
+array-read-g-2 c = omega arith
 
 array-write-g : tie.Need-array-write-g Inv-loop μ-loop
 array-write-g c = omega arith
-
-eight-shifts-requires : tie.Need-eight-shifts-requires Inv-loop μ-loop
-eight-shifts-requires c κs = search needs
 
 add-q : tie.Need-add-q Inv-loop μ-loop
 add-q c = omega arith
@@ -46,19 +46,16 @@ loop-less c = omega arith
 loop-again : tie.Need-loop-again Inv-loop μ-loop
 unfolding add
 loop-again c =
-    let l = c .before .before .before .loop in
-    let inv = l .inv in
-    let n : ℕ = c .before .before .before .before .before .args .n in
-    let old = c .before .before .before .before .before .args .f in
-    let e : 8 * (l .q + 1 - 12) ≡ 8 * (l .q - 12) + 8 = omega arith in (
+    let l = c .before .loop in
+    let n : ℕ = c .before .before .before .args .n in
+    let old = c .before .before .before .args .f in
+    let k : ℕ = l .q - 12 in
+    let e = ap (λ (x : List ℕ). getD x k 0) (c .before .before .scrambling-bytes .ensures) ∙ getD-tabulate (scramblingByte (presetOf n)) 2048 k (omega arith) in (
       omega arith,
       omega arith,
-      c .eight-shifts .ensures .1,
-      c .eight-shifts .ensures .0 ∙ ap (λ (x : ℕ). register x 8) (inv .3) ∙ sym (register-add (presetOf n) (8 * (l .q - 12)) 8) ∙ ap (register (presetOf n)) (sym e),
-      inv .4,
-      upto-more (scrambledAt n old) old (l .g) (l .q) _ (omega (arith, inv .4, inv .5 .same))
-          (ap₂ bitXor (inv .5 .left (l .q) (omega arith)) (c .before .low-byte .ensures) ∙ sym (scrambled-main n old (l .q) (l .r) (omega arith) (omega arith) (inv .3)))
-          (inv .5),
+      l .inv .2,
+      upto-more (scrambledAt n old) old (l .g) (l .q) _ (omega (arith, l .inv .2, l .inv .3 .same))
+          (ap₂ bitXor (l .inv .3 .left (l .q) (omega arith)) e ∙ sym (scrambled-main n old (l .q) (omega arith) (omega arith))) (l .inv .3),
     )
 
 returns : tie.Need-returns Inv-loop μ-loop
@@ -67,7 +64,7 @@ returns c =
     let e : l .q ≡ 2060 = omega arith in
     let n : ℕ = c .before .before .before .args .n in
     let old = c .before .before .before .args .f in
-    upto-all (scrambledAt n old) old (l .g) 2064 (l .inv .4) (scramble-end n old (l .g) (rw e at (l .inv .5)))
+    upto-all (scrambledAt n old) old (l .g) 2064 (l .inv .2) (scramble-end n old (l .g) (rw e at (l .inv .3)))
 
 pub scramble-spec : {M : Type 1} → statement M
 scramble-spec =
@@ -75,12 +72,12 @@ scramble-spec =
     (tie.spec
     Inv-loop
     μ-loop
-    preset-requires
+    scrambling-bytes-requires
     loop-holds
     array-read-g
-    low-byte-requires
+    sub-g
+    array-read-g-2
     array-write-g
-    eight-shifts-requires
     add-q
     loop-less
     loop-again

@@ -12,10 +12,10 @@ use Rattle.eccblock.proofs.add_inner.Statement.{statement}
 use Rattle.eccblock.proofs.add_inner.Tie as tie
 
 abbrev Inv-loop : tie.InvT-loop
-Inv-loop t out₀ q₀ out q = (q ≤ 208) × (length out ≡ 37856) × ((main : List ℕ) (first info : ℕ) → Rows main first info 0 out₀ → Rows main first info q out)
+Inv-loop m out₀ q₀ out q = (q ≤ 208) × (length out ≡ 37856) × ((main : List ℕ) (first info : ℕ) → Rows main first info 0 out₀ → Rows main first info q out)
 
 abbrev μ-loop : tie.MeasureT-loop
-μ-loop t out₀ q₀ out q = 208 - q
+μ-loop m out₀ q₀ out q = 208 - q
 
 loop-holds : tie.Need-loop-holds Inv-loop μ-loop
 loop-holds c = (omega arith, c .before .pre .1, λ m f i v. v)

@@ -1,33 +1,50 @@
 -- `eccblock::add_outer` meets its contract: each turn adds the parity of one column. Assumes nothing.
-use mathlib.Core.Path.{_≡_, sym, ap, _∙_}
+use mathlib.Core.Path.{_≡_, sym, _∙_}
 use mathlib.Core.List.{List}
 use Prim.Native.Nat.{ℕ, _≤_, _-_}
 use lib.ListN.{length}
 use borrow.Author.Needs.{needs}
-use Rattle.codes.specs.Parity.{parity}
-use Rattle.eccblock.specs.Stages.{Frames, Columns}
-use Rattle.eccblock.proofs.Staged.{columns-none, columns-more}
 use native.Mathlib.Omega.{arith}
+use Rattle.division.specs.Packed.{Beside}
+use Rattle.eccblock.specs.Stages.{outerOf, Frames, Columns}
+use Rattle.eccblock.proofs.Staged.{columns-none, columns-more}
+use Rattle.eccblock.proofs.Outer.{outer-bytes}
 use Rattle.eccblock.proofs.add_outer.Statement.{statement}
 use Rattle.eccblock.proofs.add_outer.Tie as tie
 
 abbrev Inv-loop : tie.InvT-loop
-Inv-loop t out₀ j₀ out j = (j ≤ 172) × (length out ≡ 37856) × ((main : List ℕ) (first info : ℕ) → Frames main first info 16 out₀ → Columns main first info j out)
+Inv-loop m out₀ regs j₀ out j =
+    (j ≤ 172) × (length out ≡ 37856) × Beside 16 (outerOf out₀) 172 regs × ((main : List ℕ) (first info : ℕ) → Frames main first info 16 out₀ → Columns main first info j out)
 
 abbrev μ-loop : tie.MeasureT-loop
-μ-loop t out₀ j₀ out j = 172 - j
+μ-loop m out₀ regs j₀ out j = 172 - j
+
+outer-registers-requires : tie.Need-outer-registers-requires Inv-loop μ-loop
+outer-registers-requires c κs = search needs
 
 loop-holds : tie.Need-loop-holds Inv-loop μ-loop
-loop-holds c = (omega arith, c .before .pre .1, λ m f i v. columns-none m f i _ v)
+loop-holds c = (omega arith, c .before .before .before .pre .1, c .outer-registers .ensures, λ m f i v. columns-none m f i _ v)
 
-column-of-requires : tie.Need-column-of-requires Inv-loop μ-loop
-column-of-requires c κs = search needs
+mul-a : tie.Need-mul-a Inv-loop μ-loop
+mul-a c = omega arith
 
-slice-aggregate-parity16-with : tie.Need-slice-aggregate-parity16-with Inv-loop μ-loop
-slice-aggregate-parity16-with c = search needs
+add-b : tie.Need-add-b Inv-loop μ-loop
+add-b c = omega arith
 
-parity16-with-requires : tie.Need-parity16-with-requires Inv-loop μ-loop
-parity16-with-requires c κs = search needs
+mul-unpack : tie.Need-mul-unpack Inv-loop μ-loop
+mul-unpack c = omega arith
+
+array-read-unpack : tie.Need-array-read-unpack Inv-loop μ-loop
+array-read-unpack c = omega arith
+
+mul-unpack-2 : tie.Need-mul-unpack-2 Inv-loop μ-loop
+mul-unpack-2 c = omega arith
+
+array-read-unpack-2 : tie.Need-array-read-unpack-2 Inv-loop μ-loop
+array-read-unpack-2 c = omega arith
+
+unpack-requires : tie.Need-unpack-requires Inv-loop μ-loop
+unpack-requires c κs = search needs
 
 store-outer-requires : tie.Need-store-outer-requires Inv-loop μ-loop
 store-outer-requires c κs = search needs
@@ -40,16 +57,17 @@ loop-less c = omega arith
 
 loop-again : tie.Need-loop-again Inv-loop μ-loop
 loop-again c =
-    let l = c .before .before .before .before .before .before .before .before .before .before .loop in
+    let a = c .before .before .before .before .before .before .before .before .before .before .before .args in
+    let l = c .before .before .before .before .before .before .before .loop in
     let w = c .before .before .store-outer .ensures in
-    let p = c .before .before .before .before .before .parity16-with .ensures ∙ ap (parity 16) (c .before .before .before .before .before .before .before .column-of .ensures) in
-    (omega arith, w .size ∙ l .inv .1, λ m f i v. columns-more m f i (l .j) _ (l .out) _ (omega arith) p w (l .inv .2 m f i v))
+    let p = outer-bytes (a .out .now) _ _ (l .j) (omega arith) (l .inv .2) (c .before .before .before .before .before .unpack .ensures) in
+    (omega arith, w .size ∙ l .inv .1, l .inv .2, λ m f i v. columns-more m f i (l .j) (a .out .now) _ (l .out) _ (omega arith) v p w (l .inv .3 m f i v))
 
 same-length : tie.Need-same-length Inv-loop μ-loop
-same-length c = c .before .loop .inv .1 ∙ sym (c .before .before .before .pre .1)
+same-length c = c .before .loop .inv .1 ∙ sym (c .before .before .before .before .before .pre .1)
 
 returns : tie.Need-returns Inv-loop μ-loop
-returns c = let e : c .before .loop .j ≡ 172 = omega arith in (c .before .loop .inv .1, λ m f i v. rw e at (c .before .loop .inv .2 m f i v))
+returns c = let e : c .before .loop .j ≡ 172 = omega arith in (c .before .loop .inv .1, λ m f i v. rw e at (c .before .loop .inv .3 m f i v))
 
 pub add-outer-spec : {M : Type 1} → statement M
 add-outer-spec =
@@ -57,10 +75,15 @@ add-outer-spec =
     (tie.spec
     Inv-loop
     μ-loop
+    outer-registers-requires
     loop-holds
-    column-of-requires
-    slice-aggregate-parity16-with
-    parity16-with-requires
+    mul-a
+    add-b
+    mul-unpack
+    array-read-unpack
+    mul-unpack-2
+    array-read-unpack-2
+    unpack-requires
     store-outer-requires
     add-j
     loop-less

@@ -1,58 +1,69 @@
--- `eccblock::store_frame` meets its contract: each turn stores one byte. Assumes nothing.
+-- `eccblock::store_frame` meets its contract: each turn stores one row. Assumes nothing.
 use mathlib.Core.Path.{_≡_}
-use Prim.Native.Nat.{_≤_, _-_}
+use Prim.Native.Nat.{_+_, _*_, _≤_, _-_}
+use lib.ListN.{drop, length-take}
 use Rattle.eccblock.specs.Stages.{Stored, framePlace}
-use Rattle.eccblock.proofs.Staged.{stored-none, stored-more, frame-apart, frame-lt}
+use Rattle.eccblock.proofs.Staged.{stored-none, frame-more}
 use native.Mathlib.Omega.{arith}
 use Rattle.eccblock.proofs.store_frame.Statement.{statement}
 use Rattle.eccblock.proofs.store_frame.Tie as tie
 
 abbrev Inv-loop : tie.InvT-loop
-Inv-loop f k out₀ q₀ out q = (q ≤ 2064) × Stored (framePlace k) f out₀ out q
+Inv-loop f k out₀ r₀ out r = (r ≤ 12) × Stored (framePlace k) f out₀ out (172 * r)
 
 abbrev μ-loop : tie.MeasureT-loop
-μ-loop f k out₀ q₀ out q = 2064 - q
+μ-loop f k out₀ r₀ out r = 12 - r
 
 loop-holds : tie.Need-loop-holds Inv-loop μ-loop
 loop-holds c = (omega arith, stored-none _ _ _)
 
-element-copy-out-out : tie.Need-element-copy-out-out Inv-loop μ-loop
-element-copy-out-out c = omega arith
+mul-start : tie.Need-mul-start Inv-loop μ-loop
+mul-start c = omega arith
 
-mul-out : tie.Need-mul-out Inv-loop μ-loop
-mul-out c = omega arith
+add-end : tie.Need-add-end Inv-loop μ-loop
+add-end c = omega arith
 
-add-out : tie.Need-add-out Inv-loop μ-loop
-add-out c = omega arith
+sub-copy-row : tie.Need-sub-copy-row Inv-loop μ-loop
+sub-copy-row c = omega arith
 
-mul-out-2 : tie.Need-mul-out-2 Inv-loop μ-loop
-mul-out-2 c = omega arith
+part-copy-row-start : tie.Need-part-copy-row-start Inv-loop μ-loop
+part-copy-row-start c = omega arith
 
-add-out-2 : tie.Need-add-out-2 Inv-loop μ-loop
-add-out-2 c = omega arith
+part-copy-row-end : tie.Need-part-copy-row-end Inv-loop μ-loop
+part-copy-row-end c = omega arith
 
-slice-write-out : tie.Need-slice-write-out Inv-loop μ-loop
-slice-write-out c = omega (arith, c .before .before .loop .inv .1 .size)
+mul-copy-row : tie.Need-mul-copy-row Inv-loop μ-loop
+mul-copy-row c = omega arith
 
-add-q : tie.Need-add-q Inv-loop μ-loop
-add-q c = omega arith
+add-copy-row : tie.Need-add-copy-row Inv-loop μ-loop
+add-copy-row c = omega arith
+
+mul-copy-row-2 : tie.Need-mul-copy-row-2 Inv-loop μ-loop
+mul-copy-row-2 c = omega arith
+
+copy-row-requires : tie.Need-copy-row-requires Inv-loop μ-loop
+copy-row-requires c κs =
+    let a = c .before .before .before .before .before .before .args in
+    let l = c .before .before .before .loop in
+    omega (arith, length-take (172 * l .r + 172 - 172 * l .r) (drop (172 * l .r) (a .f .now)), l .inv .1 .size)
+
+add-r : tie.Need-add-r Inv-loop μ-loop
+add-r c = omega arith
 
 loop-less : tie.Need-loop-less Inv-loop μ-loop
 loop-less c = omega arith
 
 loop-again : tie.Need-loop-again Inv-loop μ-loop
 loop-again c =
-    let a = c .before .before .before .args in
-    let l = c .before .before .loop in (
-      omega arith,
-      stored-more (framePlace (a .k)) (a .f .now) (a .out .now) (l .out) (l .q) (λ i h. frame-apart (a .k) i (l .q) h) (omega (arith, frame-lt (a .k) (l .q) (omega arith) (omega arith))) (l .inv .1),
-    )
+    let a = c .before .before .before .before .before .before .before .before .before .args in
+    let l = c .before .before .before .before .before .before .loop in
+    (omega arith, frame-more (a .k) (l .r) (a .f .now) (a .out .now) (l .out) _ (c .before .before .before .before .before .before .before .before .before .pre .0) (omega arith) (c .before .before .copy-row .ensures) (l .inv .1))
 
 same-length : tie.Need-same-length Inv-loop μ-loop
 same-length c = c .before .loop .inv .1 .size
 
 returns : tie.Need-returns Inv-loop μ-loop
-returns c = let e : c .before .loop .q ≡ 2064 = omega arith in rw e at (c .before .loop .inv .1)
+returns c = let e : 172 * c .before .loop .r ≡ 2064 = omega arith in rw e at (c .before .loop .inv .1)
 
 pub store-frame-spec : {M : Type 1} → statement M
 store-frame-spec =
@@ -61,13 +72,16 @@ store-frame-spec =
     Inv-loop
     μ-loop
     loop-holds
-    element-copy-out-out
-    mul-out
-    add-out
-    mul-out-2
-    add-out-2
-    slice-write-out
-    add-q
+    mul-start
+    add-end
+    sub-copy-row
+    part-copy-row-start
+    part-copy-row-end
+    mul-copy-row
+    add-copy-row
+    mul-copy-row-2
+    copy-row-requires
+    add-r
     loop-less
     loop-again
     same-length

@@ -20,8 +20,11 @@ loop-holds c = (omega arith, frames-none _ _ _ _ (c .before .before .pre .3))
 scrambled-frame-requires : tie.Need-scrambled-frame-requires Inv-loop μ-loop
 scrambled-frame-requires c κs = search needs
 
+slice-aggregate-store-frame : tie.Need-slice-aggregate-store-frame Inv-loop μ-loop
+slice-aggregate-store-frame c = search needs
+
 store-frame-requires : tie.Need-store-frame-requires Inv-loop μ-loop
-store-frame-requires c κs = (omega arith, c .before .before .before .before .loop .inv .1 .size)
+store-frame-requires c κs = (search needs, omega arith, c .before .before .before .before .loop .inv .1 .size)
 
 add-k : tie.Need-add-k Inv-loop μ-loop
 add-k c = omega arith
@@ -51,6 +54,7 @@ store-frames-spec =
     μ-loop
     loop-holds
     scrambled-frame-requires
+    slice-aggregate-store-frame
     store-frame-requires
     add-k
     loop-less

@@ -1,12 +1,12 @@
 -- `reader::read_bytes` meets its contract. The loop keeps the bytes read so far and the count of unknown words among them. Assumes nothing.
 use mathlib.Core.Path.{_≡_, refl, sym, ap, ap₂, _∙_}
-use Prim.Native.Nat.{_+_, _-_, _<_, _≤_}
+use Prim.Native.Nat.{ℕ, _+_, _*_, _-_, _/_, _<_, _≤_}
 use native.Mathlib.Omega.{arith}
 use lib.ListN.{length}
-use Rattle.lists.specs.Count.{bit, countFrom}
+use Rattle.lists.specs.Count.{countFrom}
 use Rattle.lists.proofs.Count.{count-le, count-snoc}
 use Rattle.lists.proofs.Fill.{Upto, upto-none, upto-more, upto-all}
-use Rattle.channel.specs.Block.{readAt}
+use Rattle.channel.specs.Block.{halfOf, halfAt, readAt}
 use Rattle.reader.specs.Sector.{unknownAt, unknownTally}
 use Rattle.reader.proofs.Steps.{byte-is, unknown-is}
 use borrow.Author.Needs.{needs}
@@ -14,10 +14,10 @@ use Rattle.reader.proofs.read_bytes.Statement.{statement}
 use Rattle.reader.proofs.read_bytes.Tie as tie
 
 abbrev Inv-loop : tie.InvT-loop
-Inv-loop m u stream out₀ unknown₀ i₀ out unknown i = (i ≤ 2366) × Upto (readAt stream) out₀ out i × (unknown ≡ countFrom (unknownAt stream) 0 i)
+Inv-loop m u x stream out₀ unknown₀ i₀ out unknown i = (i ≤ 2366) × Upto (readAt stream) out₀ out i × (unknown ≡ countFrom (unknownAt stream) 0 i)
 
 abbrev μ-loop : tie.MeasureT-loop
-μ-loop m u stream out₀ unknown₀ i₀ out unknown i = 2366 - i
+μ-loop m u x stream out₀ unknown₀ i₀ out unknown i = 2366 - i
 
 loop-holds : tie.Need-loop-holds Inv-loop μ-loop
 loop-holds c = (omega arith, upto-none _ _, refl)
@@ -32,34 +32,31 @@ add-k-2 : tie.Need-add-k-2 Inv-loop μ-loop
 add-k-2 c = omega arith
 
 half-requires : tie.Need-half-requires Inv-loop μ-loop
-half-requires c κs = omega (arith, c .before .before .before .before .pre .2)
+half-requires c κs = omega (arith, c .before .before .before .before .pre .3)
 
 add-half : tie.Need-add-half Inv-loop μ-loop
 add-half c = omega arith
 
 half-requires-2 : tie.Need-half-requires-2 Inv-loop μ-loop
-half-requires-2 c κs = omega (arith, c .before .before .before .before .before .pre .2)
+half-requires-2 c κs = omega (arith, c .before .before .before .before .before .pre .3)
 
-read-with-requires : tie.Need-read-with-requires Inv-loop μ-loop
-read-with-requires c κs =
+read-indexed-requires : tie.Need-read-indexed-requires Inv-loop μ-loop
+read-indexed-requires c κs =
     let s = c .before .before .before .before .before .before in
-    (s .pre .0, s .pre .1)
+    (s .pre .0, s .pre .1, s .pre .2)
 
-byte-of-requires : tie.Need-byte-of-requires Inv-loop μ-loop
-byte-of-requires c κs = search needs
+cast-out : tie.Need-cast-out Inv-loop μ-loop
+cast-out c = omega (arith, c .read-indexed .ensures .1)
 
 slice-write-out : tie.Need-slice-write-out Inv-loop μ-loop
 slice-write-out c =
-    let l = c .before .before .before .before .before in
-    omega (arith, l .loop .inv .1 .same, l .before .before .before .pre .3)
-
-unknown-of-requires : tie.Need-unknown-of-requires Inv-loop μ-loop
-unknown-of-requires c κs = search needs
+    let l = c .before .before .before .before in
+    omega (arith, l .loop .inv .1 .same, l .before .before .before .pre .4)
 
 add-unknown : tie.Need-add-unknown Inv-loop μ-loop
 add-unknown c =
-    let l = c .before .before .before .before .before .before in
-    omega (arith, c .unknown-of .ensures .1, l .loop .inv .2, count-le (unknownAt (l .before .before .before .args .stream .now)) 0 (l .loop .i))
+    let l = c .before .before .before .before in
+    omega (arith, l .loop .inv .2, count-le (unknownAt (l .before .before .before .args .stream .now)) 0 (l .loop .i))
 
 add-i : tie.Need-add-i Inv-loop μ-loop
 add-i c = omega arith
@@ -69,16 +66,17 @@ loop-less c = omega arith
 
 loop-again : tie.Need-loop-again Inv-loop μ-loop
 loop-again c =
-    let l = c .before .before .before .before .before .before in
+    let l = c .before .before .before .before in
     let s = l .before .before .before in
     let xs = s .args .stream .now in
-    let hw = c .before .before .before .before .half .ensures in
-    let hf = c .before .before .before .half2 .ensures in
-    let hr = c .before .before .read-with .ensures in
-    let inside : l .loop .i < length (l .loop .out) = omega (arith, l .loop .inv .1 .same, s .pre .3) in (
+    let place : l .loop .i + 2 * (l .loop .i / 91) + 2 ≡ halfOf (l .loop .i) = omega arith in
+    let hw = c .before .before .half .ensures ∙ ap (halfAt xs) place in
+    let hf = c .before .half2 .ensures ∙ ap (λ (n : ℕ). halfAt xs (n + 1)) place in
+    let hr = c .read-indexed .ensures .0 in
+    let inside : l .loop .i < length (l .loop .out) = omega (arith, l .loop .inv .1 .same, s .pre .4) in (
       omega arith,
-      upto-more _ _ _ _ _ inside (c .before .byte-of .ensures ∙ byte-is xs (l .loop .i) _ _ _ hw hf hr) (l .loop .inv .1),
-      ap₂ _+_ (l .loop .inv .2) (c .unknown-of .ensures .0 ∙ ap bit (unknown-is xs (l .loop .i) _ _ _ hw hf hr)) ∙ sym (count-snoc (unknownAt xs) (l .loop .i)),
+      upto-more _ _ _ _ _ inside (byte-is xs (l .loop .i) _ _ _ hw hf hr) (l .loop .inv .1),
+      ap₂ _+_ (l .loop .inv .2) (unknown-is xs (l .loop .i) _ _ _ hw hf hr) ∙ sym (count-snoc (unknownAt xs) (l .loop .i)),
     )
 
 same-length : tie.Need-same-length Inv-loop μ-loop
@@ -92,7 +90,7 @@ returns c =
     let xs = s .args .stream .now in
     let e : l .loop .i ≡ 2366 = omega arith in (
       l .loop .inv .2 ∙ ap (countFrom (unknownAt xs) 0) e,
-      upto-all (readAt xs) (s .args .out .now) (l .loop .out) 2366 (s .pre .3) (rw e at (l .loop .inv .1)),
+      upto-all (readAt xs) (s .args .out .now) (l .loop .out) 2366 (s .pre .4) (rw e at (l .loop .inv .1)),
     )
 
 pub read-bytes-spec : {M : Type 1} → statement M
@@ -108,10 +106,9 @@ read-bytes-spec =
     half-requires
     add-half
     half-requires-2
-    read-with-requires
-    byte-of-requires
+    read-indexed-requires
+    cast-out
     slice-write-out
-    unknown-of-requires
     add-unknown
     add-i
     loop-less

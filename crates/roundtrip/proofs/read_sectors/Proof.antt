@@ -22,18 +22,21 @@ use Rattle.reader.proofs.read_sector_with.Reads as read-sector-with-reads
 use Rattle.roundtrip.proofs.Sums.with.Reads as with-reads
 
 abbrev Inv-loop : tie.InvT-loop
-Inv-loop stream block₀ m u y s₀ k₀ block s k =
+Inv-loop stream block₀ m u x y s₀ k₀ block s k =
     (k ≤ 16) × Upto (readAt stream) block₀ block (2366 * k) × (s .unknown ≤ 2366 * k) × (s .sync ≤ 26 * k)
     × (s .unknown + sectorSum unknownTally stream k (16 - k) ≡ sectorSum unknownTally stream 0 16) × (s .sync + sectorSum syncTally stream k (16 - k) ≡ sectorSum syncTally stream 0 16)
 
 abbrev μ-loop : tie.MeasureT-loop
-μ-loop stream block₀ m u y s₀ k₀ block s k = 16 - k
+μ-loop stream block₀ m u x y s₀ k₀ block s k = 16 - k
 
 main-table-requires : tie.Need-main-table-requires Inv-loop μ-loop
 main-table-requires c κs = search needs
 
 sub-table-requires : tie.Need-sub-table-requires Inv-loop μ-loop
 sub-table-requires c κs = search needs
+
+word-index-requires : tie.Need-word-index-requires Inv-loop μ-loop
+word-index-requires c κs = search needs
 
 sync-table-requires : tie.Need-sync-table-requires Inv-loop μ-loop
 sync-table-requires c κs = search needs
@@ -72,11 +75,13 @@ part-read-sector-with-end-2 : tie.Need-part-read-sector-with-end-2 Inv-loop μ-l
 part-read-sector-with-end-2 c = omega arith
 
 read-sector-with-requires : tie.Need-read-sector-with-requires Inv-loop μ-loop
-read-sector-with-requires c κs = (c .before .before .before .before .before .before .before .before .before .main-table .ensures, c .before .before .before .before .before .before .before .before .sub-table .ensures, c .before .before .before .before .before .before .before .sync-table .ensures)
+read-sector-with-requires c κs =
+    let y = c .before .before .before .before .before .before .before .before in
+    (y .before .before .before .before .before .main-table .ensures, y .before .before .before .before .sub-table .ensures, y .before .word-index .ensures, y .sync-table .ensures)
 
 with-requires : tie.Need-with-requires Inv-loop μ-loop
 with-requires c κs =
-    let l = c .before .before .before .before .before .before .before .before .before .loop in
+    let l = c .before .before .before .before .before .before .before .before .before .before .loop in
     (omega arith, omega arith)
 
 add-k : tie.Need-add-k Inv-loop μ-loop
@@ -87,8 +92,8 @@ loop-less c = omega arith
 
 loop-again : tie.Need-loop-again Inv-loop μ-loop
 loop-again c =
-    let s = c .before .before .before .before .before .before .before .before .before .before .before .before .before .before .before .before in
-    let l = c .before .before .before .before .before .before .before .before .before .before .loop in
+    let s = c .before .before .before .before .before .before .before .before .before .before .before .before .before .before .before .before .before .before .before .before in
+    let l = c .before .before .before .before .before .before .before .before .before .before .before .loop in
     let d : List ℕ = take (4836 * l .k + 4838 - 4836 * l .k) (drop (4836 * l .k) (s .args .stream .now)) in
     let o : List ℕ = take (2366 * l .k + 2366 - 2366 * l .k) (drop (2366 * l .k) (l .block)) in
     let hk : l .k < 16 = omega arith in
@@ -101,7 +106,7 @@ loop-again c =
     let m = sums-next (s .args .stream .now) d (l .k) hk (s .pre .0) e (l .s) (c .with .result) (length o) _ lo (r .0) (c .with .ensures) in
     let x : 2366 * l .k + 2366 ≡ 2366 * (l .k + 1) = omega arith in (
       omega arith,
-      upto-put (readAt (s .args .stream .now)) (s .args .block .now) (l .block) (c .before .before .before .read-sector-with .last .1 .1 .1 .1 .0) (2366 * l .k) 2366 (2366 * l .k + 2366 - 2366 * l .k) (2366 * (l .k + 1)) b (sym x) (omega (arith, lb))
+      upto-put (readAt (s .args .stream .now)) (s .args .block .now) (l .block) (c .before .before .before .read-sector-with .last .1 .1 .1 .1 .1 .0) (2366 * l .k) 2366 (2366 * l .k + 2366 - 2366 * l .k) (2366 * (l .k + 1)) b (sym x) (omega (arith, lb))
           (ap length (r .1) ∙ sector-length (s .args .stream .now) d (l .k) hk (s .pre .0) e o lo)
           (λ i h. ap (λ (z : List ℕ). getD z i 0) (r .1) ∙ sector-bytes (s .args .stream .now) d (l .k) hk (s .pre .0) e o lo i h) (l .inv .1),
       omega (arith, m .0, unknown-le (sectorPart (s .args .stream .now) (l .k)), l .inv .2),
@@ -115,7 +120,7 @@ same-length c = c .before .loop .inv .1 .same
 
 returns : tie.Need-returns Inv-loop μ-loop
 returns c =
-    let s = c .before .before .before .before .before .before .before in
+    let s = c .before .before .before .before .before .before .before .before .before .before in
     let l = c .before .loop in
     let e : 2366 * l .k ≡ 37856 = omega arith in (
       sectors-all (s .args .stream .now) (s .args .block .now) (l .block) (s .pre .1) (rw e at (l .inv .1)),
@@ -131,6 +136,7 @@ read-sectors-spec =
     μ-loop
     main-table-requires
     sub-table-requires
+    word-index-requires
     sync-table-requires
     loop-holds
     mul-from

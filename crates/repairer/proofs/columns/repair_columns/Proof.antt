@@ -1,29 +1,74 @@
 -- `columns::repair_columns` meets its contract: each turn repairs one column. Assumes nothing.
-use mathlib.Core.Path.{_≡_, ap, _∙_}
+use mathlib.Core.Path.{_≡_, sym, ap, _∙_}
 use Prim.Native.Nat.{_≤_, _-_}
 use Rattle.codes.specs.Nearest.{outcomeOf}
+use Rattle.codes.specs.Word.{isCode}
 use Rattle.eccblock.specs.Parts.{columnOf}
 use Rattle.repairer.specs.Repair.{tallyOf}
 use Rattle.repairer.proofs.Counting.{tally-none, tally-small, tally-more}
 use Rattle.repairer.proofs.ColumnLaws.{ColumnsUpto, columns-none, column-same, columns-more, columns-all}
+use Rattle.repairer.proofs.DivisionLaws.{divided-clean}
 use native.Mathlib.Omega.{arith}
+use borrow.Author.Needs.{needs}
 use Rattle.repairer.proofs.columns.repair_columns.Statement.{statement}
 use Rattle.repairer.proofs.columns.repair_columns.Tie as tie
+use Rattle.repairer.proofs.columns.repair_columns.Reads as reads
+use Rattle.repairer.proofs.columns.repair_columns.Lts as lts
+use Rattle.repairer.proofs.columns.divide_columns.Reads as divide-columns-reads
+use Rattle.repairer.proofs.columns.repair_left.Reads as repair-left-reads
+use Rattle.repairer.proofs.count_word.Reads as count-word-reads
 
 abbrev Inv-loop : tie.InvT-loop
-Inv-loop t b₀ n₀ j₀ b n j = (j ≤ 172) × (n ≡ tallyOf 16 8 (columnOf b₀) j) × ColumnsUpto b₀ b j
+Inv-loop t m b₀ left n₀ j₀ b n j = (j ≤ 172) × (n ≡ tallyOf 16 8 (columnOf b₀) j) × ColumnsUpto b₀ b j
 
 abbrev μ-loop : tie.MeasureT-loop
-μ-loop t b₀ n₀ j₀ b n j = 172 - j
+μ-loop t m b₀ left n₀ j₀ b n j = 172 - j
+
+divide-columns-requires : tie.Need-divide-columns-requires Inv-loop μ-loop
+divide-columns-requires c κs = search needs
 
 loop-holds : tie.Need-loop-holds Inv-loop μ-loop
 loop-holds c = (omega arith, tally-none 16 8 _, columns-none _)
 
-repair-column-requires : tie.Need-repair-column-requires Inv-loop μ-loop
-repair-column-requires c κs = (c .before .before .before .before .pre .0, c .before .before .loop .inv .2 .size ∙ c .before .before .before .before .pre .1, omega arith)
+mul-repair-left : tie.Need-mul-repair-left Inv-loop μ-loop
+mul-repair-left c = omega arith
+
+mul-repair-left-2 : tie.Need-mul-repair-left-2 Inv-loop μ-loop
+mul-repair-left-2 c = omega arith
+
+array-read-repair-left : tie.Need-array-read-repair-left Inv-loop μ-loop
+array-read-repair-left c = omega arith
+
+mul-repair-left-3 : tie.Need-mul-repair-left-3 Inv-loop μ-loop
+mul-repair-left-3 c = omega arith
+
+add-repair-left : tie.Need-add-repair-left Inv-loop μ-loop
+add-repair-left c = omega arith
+
+mul-repair-left-4 : tie.Need-mul-repair-left-4 Inv-loop μ-loop
+mul-repair-left-4 c = omega arith
+
+array-read-repair-left-2 : tie.Need-array-read-repair-left-2 Inv-loop μ-loop
+array-read-repair-left-2 c = omega arith
+
+repair-left-requires : tie.Need-repair-left-requires Inv-loop μ-loop
+repair-left-requires c κs =
+    let s = c .before .before .before .before .before .before in
+    let l = c .before .before .loop in
+    let old = s .args .b .now in
+    let known = c .before .before .before .before .before .slice-known .given in
+    let d = c .before .before .before .divide-columns in (
+      s .pre .0,
+      s .pre .1,
+      l .inv .2 .size ∙ s .pre .2,
+      omega arith,
+      λ e f. ap (isCode 16) (column-same old (l .b) (l .j) (omega arith) (l .inv .2)) ∙ divided-clean old (d .result) (λ k. omega (arith, known k)) (d .ensures) (l .j) (omega arith) e f,
+    )
 
 count-word-requires : tie.Need-count-word-requires Inv-loop μ-loop
-count-word-requires c κs = let l = c .before .before .before .before .before .loop in tally-small 16 8 (columnOf (c .before .before .before .before .before .before .before .args .b .now)) (l .j) _ (l .inv .1) (omega arith)
+count-word-requires c κs =
+    let l = c .before .before .before .before .before .loop in
+    tally-small 16 8 (columnOf (c .before .before .before .before .before .before .before .before .before .args .b .now)) (l .j) _ (l .inv .1) (omega arith)
 
 add-j : tie.Need-add-j Inv-loop μ-loop
 add-j c = omega arith
@@ -33,10 +78,10 @@ loop-less c = omega arith
 
 loop-again : tie.Need-loop-again Inv-loop μ-loop
 loop-again c =
-    let s = c .before .before .before .before .before .before .before .before in
+    let s = c .before .before .before .before .before .before .before .before .before .before in
     let old = s .args .b .now in
     let l = c .before .before .before .before .before .before .loop in
-    let r = c .before .before .before .repair-column .ensures in
+    let r = c .before .before .before .repair-left .ensures in
     let o = r .0 ∙ ap (outcomeOf 16 8) (column-same old (l .b) (l .j) (omega arith) (l .inv .2)) in (
       omega arith,
       c .count-word .ensures ∙ tally-more 16 8 (columnOf old) (l .j) _ _ (l .inv .1) o,
@@ -50,7 +95,7 @@ returns : tie.Need-returns Inv-loop μ-loop
 returns c =
     let l = c .before .loop in
     let e : l .j ≡ 172 = omega arith in
-    (rw e at (l .inv .1), columns-all _ (l .b) (c .before .before .before .pre .1) (rw e at (l .inv .2)))
+    (rw e at (l .inv .1), columns-all _ (l .b) (c .before .before .before .before .before .pre .2) (rw e at (l .inv .2)))
 
 pub repair-columns-spec : {M : Type 1} → statement M
 repair-columns-spec =
@@ -58,8 +103,16 @@ repair-columns-spec =
     (tie.spec
     Inv-loop
     μ-loop
+    divide-columns-requires
     loop-holds
-    repair-column-requires
+    mul-repair-left
+    mul-repair-left-2
+    array-read-repair-left
+    mul-repair-left-3
+    add-repair-left
+    mul-repair-left-4
+    array-read-repair-left-2
+    repair-left-requires
     count-word-requires
     add-j
     loop-less

@@ -1,0 +1,33 @@
+-- `annexg::word_index` meets its contract. Assumes nothing.
+use mathlib.Core.Path.{_≡_, ap, ap₂, _∙_}
+use mathlib.Core.List.{List}
+use Prim.Native.Nat.{ℕ, _<_}
+use native.Mathlib.Omega.{arith}
+use lib.ListN.{getD, replicate}
+use Rattle.annexg.specs.Read.{tableOf}
+use Rattle.annexg.specs.Index.{putAll, wordIndex}
+use Rattle.annexg.proofs.Search.{length-main, length-sub}
+use Rattle.annexg.proofs.Figure.{table-below}
+use Rattle.annexg.proofs.word_index.Statement.{statement}
+use Rattle.annexg.proofs.word_index.Tie as tie
+use Rattle.annexg.proofs.word_index.Reads as reads
+use Rattle.annexg.proofs.word_index.Lts as lts
+use Rattle.annexg.proofs.put_table.Reads as put-table-reads
+
+lent : (t : ℕ) (es : List ℕ) → es ≡ tableOf t → (k : ℕ) → getD es k 0 < 1048576
+lent t es e k = rw e (table-below t k)
+
+put-table-requires : tie.Need-put-table-requires
+put-table-requires c κs = (omega arith, lent 0 _ (c .before .before .pre .0))
+
+put-table-requires-2 : tie.Need-put-table-requires-2
+put-table-requires-2 c κs = (omega arith, lent 1 _ (c .before .before .before .before .before .pre .1))
+
+returns : tie.Need-returns
+unfolding wordIndex
+returns c =
+    let p = c .before .before .before .before .before .before .pre in
+    c .put-table2 .ensures ∙ ap₂ putAll (p .1) (c .before .before .before .put-table .ensures ∙ ap (λ (es : List ℕ). putAll es (replicate 8192 0)) (p .0))
+
+pub word-index-spec : {M : Type 1} → statement M
+word-index-spec = tie.close (tie.spec put-table-requires put-table-requires-2 returns)

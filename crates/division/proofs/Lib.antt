@@ -1,0 +1,5 @@
+pub mod Numbers
+pub mod Step
+pub mod Division
+pub mod Unpacked
+pub mod Words

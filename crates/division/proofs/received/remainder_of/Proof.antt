@@ -1,0 +1,83 @@
+-- `received::remainder_of` meets its contract. Assumes nothing.
+use mathlib.Core.Path.{_≡_, refl, sym, ap, ap₂, _∙_}
+use mathlib.Core.List.{List}
+use Prim.Native.Nat.{ℕ, _-_, _≤_}
+use native.Mathlib.Omega.{arith}
+use lib.ListN.{length, take, drop, length-drop}
+use lib.Seq.{length-take-le, take-all}
+use Rattle.lists.specs.Bytes.{Bytes}
+use Rattle.lists.proofs.Bytes.{bytes-of}
+use Rattle.field.specs.Field.{add}
+use Rattle.codes.specs.Parity.{parity}
+use Rattle.division.specs.Packed.{high, low}
+use Rattle.division.proofs.Words.{left-high, left-low}
+use borrow.Author.Needs.{needs}
+use Rattle.division.proofs.received.remainder_of.Statement.{statement}
+use Rattle.division.proofs.received.remainder_of.Tie as tie
+use Rattle.division.proofs.received.remainder_of.Reads as reads
+use Rattle.division.proofs.received.remainder_of.Lts as lts
+use Rattle.division.proofs.register.divide.Reads as divide-reads
+use Rattle.division.proofs.received.eight.Reads as eight-reads
+
+-- src/received.rt:38:13
+sub-n : tie.Need-sub-n
+sub-n c = search needs
+
+-- src/received.rt:39:38
+slice-aggregate-divide : tie.Need-slice-aggregate-divide
+slice-aggregate-divide c =
+    let s = c .before .before in
+    sym (length-take-le (length (s .args .w .now) - s .args .p) (s .args .w .now) (omega arith))
+
+-- src/received.rt:39:9
+divide-requires : tie.Need-divide-requires
+divide-requires c κs = search needs
+
+-- src/received.rt:40:13
+sub-q : tie.Need-sub-q
+sub-q c = search needs
+
+-- src/received.rt:40:13
+part-q-start : tie.Need-part-q-start
+part-q-start c = search needs
+
+-- src/received.rt:40:13
+part-q-end : tie.Need-part-q-end
+part-q-end c = search needs
+
+-- src/received.rt:42:24
+eight-requires : tie.Need-eight-requires
+eight-requires c κs = search needs
+
+-- src/received.rt:43:22
+eight-requires-2 : tie.Need-eight-requires-2
+eight-requires-2 c κs = search needs
+
+-- src/received.rt:34:1
+returns : tie.Need-returns
+unfolding add high low
+returns c =
+    let s = c .before .before .before .before .before .before .before .before in
+    let w : List ℕ = s .args .w .now in
+    let b : Bytes w = bytes-of w (λ i l. omega (arith, c .before .before .before .before .before .before .before .shared-slice-known .given i)) in
+    let e = c .before .before .before .before .before .divide .ensures (s .args .p) (s .pre .0) (s .pre .2) in
+    let n : ℕ = length w - s .args .p in
+    let d : (c .before .before .before .before .before .divide .result .high ≡ high (parity (s .args .p) (take n w))) × (c .before .before .before .before .before .divide .result .low ≡ low (parity (s .args .p) (take n w))) = e in
+    let q : take (length w - n) (drop n w) ≡ drop n w = take-all (length w - n) (drop n w) (omega (arith, length-drop n w)) in (
+      ap₂ add (d .0) (c .before .before .before .eight .ensures ∙ ap high q) ∙ sym (left-high (s .args .p) w b (s .pre .1)),
+      ap₂ add (d .1) (c .before .eight2 .ensures ∙ ap low q) ∙ sym (left-low (s .args .p) w b (s .pre .1)),
+    )
+
+pub remainder-of-spec : {M : Type 1} → statement M
+remainder-of-spec =
+    tie.close
+    (tie.spec
+    sub-n
+    slice-aggregate-divide
+    divide-requires
+    sub-q
+    part-q-start
+    part-q-end
+    eight-requires
+    eight-requires-2
+    returns)
