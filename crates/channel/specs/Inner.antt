@@ -4,16 +4,8 @@ use mathlib.Core.Path.{_≡_}
 use mathlib.Core.Bool.{_&&_}
 use mathlib.Core.List.{List, _∷_}
 use Prim.Native.Nat.{ℕ, _+_}
-use Rattle.annexg.specs.Runs.{bitsOf, lead, trail}
 use Rattle.channel.specs.Bits.{runsFrom}
 use Rattle.channel.specs.declared.Scan.{Scan}
-
--- the ZEROs before the first ONE of a half word, and those after the last
-unfoldable pub leadOf : ℕ → ℕ
-leadOf w = lead (bitsOf 16 w)
-
-unfoldable pub trailOf : ℕ → ℕ
-trailOf w = trail w
 
 -- what is still to be scanned after one bit, whatever bits come after it
 pub record Scanned (a : Scan) (j b : ℕ) (r : Scan) : Type 0 where

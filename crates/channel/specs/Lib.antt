@@ -2,4 +2,5 @@ pub mod Channel
 pub mod Block
 pub mod Bits
 pub mod Level
+pub mod Levels
 pub mod Inner

@@ -1,4 +1,6 @@
 // The channel: the running record over code bits, and the run of ZEROs across a join.
+mod levels;
+
 ghost use mathlib.Core.Path.{_≡_};
 ghost use mathlib.Core.List.{List, [], _∷_};
 ghost use Prim.Native.Nat.{_+_, _*_, _-_, _/_, _%_, _^_, _<_, _≤_};
@@ -9,10 +11,11 @@ ghost use Rattle.lists.specs.Count.{bit};
 ghost use Rattle.annexg.specs.Runs.{inside};
 ghost use Rattle.annexg.specs.Sync.{syncEnd};
 ghost use Rattle.channel.specs.Channel.{joinRun};
-ghost use Rattle.channel.specs.Level.{flipped, runAfter, Room};
+ghost use Rattle.channel.specs.Level.{runAfter, Room};
+ghost use Rattle.channel.specs.Levels.{byteLevels, levelTable};
 ghost use Rattle.channel.specs.Block.{bitAt};
 ghost use Rattle.channel.specs.Bits.{blockRunFits, runsHold};
-ghost use Rattle.channel.specs.Inner.{leadOf, trailOf, Scanned};
+ghost use Rattle.channel.specs.Inner.{Scanned};
 
 // The running record: the State prescribed next, the NRZI level, and the DSV, held with 0 at 2^40.
 pub struct Run {
@@ -21,49 +24,46 @@ pub struct Run {
     pub dsv: u64,
 }
 
-// The level from a bit on: a ONE flips it. This is the writer's inmost work: a sum and no branch.
-fn turned(level: u8, b: bool) -> u8
-    requires { ⌜ level < 2 ⌝ }
-    ensures { λ r. ⌜ (r ≡ flipped level (bit b)) × (r < 2) ⌝ }
+// The table of levels over a byte. The writer's inmost work is the step over a half word: eight bits at a time, by this table.
+pub fn level_table() -> [u8; 256]
+    ensures { λ r. ⌜ r ≡ levelTable ⌝ }
 {
-    (level + (b as u8)) % 2
+    levels::LEVELS
 }
 
-// Bit n of a half word.
-fn bit_of(w: u16, n: u16) -> bool
-    requires { ⌜ n < 16 ⌝ }
-    ensures { λ r. ⌜ bit r ≡ w / 2 ^ n % 2 ⌝ }
+// Byte x from a level: twice its bits at level ONE, and the level after it. From level ONE each bit is at the other level than from level ZERO.
+fn levels_of(d: &[u8; 256], level: u8, x: u8) -> u8
+    requires { ⌜ (now d ≡ levelTable) × (level < 2) ⌝ }
+    ensures { λ r. ⌜ (r ≡ byteLevels level x) × (r ≤ 17) ⌝ }
 {
-    (w >> n) % 2 == 1
+    let e = d[x as usize];
+    if level == 0 {
+        return e;
+    }
+    17 - e
 }
 
 impl Run {
     // The step over a half word, first bit highest; the State stays. Of 16 bits those at level ONE count 1 and the others -1.
-    pub fn half(self, w: u16) -> Run
-        requires { ⌜ Room self 16 ⌝ }
+    pub fn half(self, d: &[u8; 256], w: u16) -> Run
+        requires { ⌜ (now d ≡ levelTable) × Room self 16 ⌝ }
         ensures { λ r. ⌜ r ≡ runAfter self (self .state) (w ∷ []) ⌝ }
     {
-        let mut level = self.level;
-        let mut ones: u8 = 0;
-        let mut n: u16 = 16;
-        while 0 < n {
-            n -= 1;
-            level = turned(level, bit_of(w, n));
-            ones += level;
-        }
+        let a = levels_of(d, self.level, (w / 256) as u8);
+        let b = levels_of(d, a % 2, (w % 256) as u8);
         Run {
             state: self.state,
-            level,
-            dsv: self.dsv + 2 * (ones as u64) - 16,
+            level: b % 2,
+            dsv: self.dsv + 2 * ((a / 2 + b / 2) as u64) - 16,
         }
     }
 
     // The step over a Code Word, with the next State that the table gives with it.
-    pub fn word(self, w: u16, next: u8) -> Run
-        requires { ⌜ Room self 16 ⌝ }
+    pub fn word(self, d: &[u8; 256], w: u16, next: u8) -> Run
+        requires { ⌜ (now d ≡ levelTable) × Room self 16 ⌝ }
         ensures { λ r. ⌜ r ≡ runAfter self next (w ∷ []) ⌝ }
     {
-        let r = self.half(w);
+        let r = self.half(d, w);
         Run {
             state: next,
             level: r.level,
@@ -72,47 +72,19 @@ impl Run {
     }
 
     // The step over a SYNC Code, by its first half word. After it the State is 1.
-    pub fn sync(self, first: u16) -> Run
-        requires { ⌜ Room self 32 ⌝ }
+    pub fn sync(self, d: &[u8; 256], first: u16) -> Run
+        requires { ⌜ (now d ≡ levelTable) × Room self 32 ⌝ }
         ensures { λ r. ⌜ r ≡ runAfter self 1 (first ∷ syncEnd ∷ []) ⌝ }
     {
-        self.half(first).word(0x0011, 1)
+        self.half(d, first).word(d, 0x0011, 1)
     }
-}
-
-// The ZEROs before the first ONE.
-fn lead_of(w: u16) -> u16
-    ensures { λ r. ⌜ (r ≡ leadOf w) × (r ≤ 16) ⌝ }
-{
-    let mut n: u16 = 16;
-    while 0 < n {
-        if bit_of(w, n - 1) {
-            return 16 - n;
-        }
-        n -= 1;
-    }
-    16
-}
-
-// The ZEROs after the last ONE.
-fn trail_of(w: u16) -> u16
-    ensures { λ r. ⌜ (r ≡ trailOf w) × (r ≤ 16) ⌝ }
-{
-    let mut n: u16 = 0;
-    while n < 16 {
-        if bit_of(w, n) {
-            return n;
-        }
-        n += 1;
-    }
-    16
 }
 
 // The run across the join of two half words is 2 to 10.
 pub fn joins(l: u16, h: u16) -> bool
     ensures { λ r. ⌜ r ≡ inside 2 10 (joinRun l h) ⌝ }
 {
-    let n = trail_of(l) + lead_of(h);
+    let n = u16::trailing_zeros(l) + u16::leading_zeros(h);
     if n < 2 {
         return false;
     }

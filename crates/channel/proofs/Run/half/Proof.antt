@@ -1,79 +1,53 @@
--- `channel::Run::half` meets its contract. `Left` says what is still to be done over the lowest n bits.
+-- `channel::Run::half` meets its contract.
 -- Assumes nothing.
-use Prim.Native.Nat.{_≤_, _<_, _+_, _*_, _-_, _/_, _%_, _^_}
-use mathlib.Core.Path.{_≡_, refl, ap, _∙_}
-use native.Mathlib.Omega.{arith}
+use Rattle.channel.proofs.HalfWords.{half-by-bytes}
 use borrow.Author.Needs.{needs}
-use Rattle.channel.specs.Level.{flipped}
-use Rattle.channel.proofs.Steps.{Left, left-step, left-none}
 use Rattle.channel.proofs.Run.half.Statement.{statement}
 use Rattle.channel.proofs.Run.half.Tie as tie
 
-abbrev Inv-loop : tie.InvT-loop
-Inv-loop self w level₀ ones₀ n₀ level ones n = (n ≤ 16) × ((level < 2) × ((ones + n ≤ 16) × Left (self .level) level ones w n))
+cast-levels-of : tie.Need-cast-levels-of
+cast-levels-of c = search needs
 
-abbrev μ-loop : tie.MeasureT-loop
-μ-loop self w level₀ ones₀ n₀ level ones n = n
+levels-of-requires : tie.Need-levels-of-requires
+levels-of-requires c κs = search needs
 
-loop-holds : tie.Need-loop-holds Inv-loop μ-loop
-loop-holds c = (omega arith, (c .pre .level, (omega arith, record { level = refl; passed = omega arith })))
+cast-levels-of-2 : tie.Need-cast-levels-of-2
+cast-levels-of-2 c = search needs
 
-sub-n : tie.Need-sub-n Inv-loop μ-loop
-sub-n c = omega arith
+levels-of-requires-2 : tie.Need-levels-of-requires-2
+levels-of-requires-2 c κs = search needs
 
-bit-of-requires : tie.Need-bit-of-requires Inv-loop μ-loop
-bit-of-requires c κs = omega arith
+add-t10 : tie.Need-add-t10
+add-t10 c = search needs
 
-turned-requires : tie.Need-turned-requires Inv-loop μ-loop
-turned-requires c κs = search needs
+cast-t11 : tie.Need-cast-t11
+cast-t11 c = search needs
 
-add-ones : tie.Need-add-ones Inv-loop μ-loop
-add-ones c = omega (arith, c .before .before .before .loop .inv, c .turned .ensures)
+mul-t12 : tie.Need-mul-t12
+mul-t12 c = search needs
 
-loop-less : tie.Need-loop-less Inv-loop μ-loop
-loop-less c = omega arith
+add-t13 : tie.Need-add-t13
+add-t13 c = search needs
 
-loop-again : tie.Need-loop-again Inv-loop μ-loop
-loop-again c =
-    let v = c .before .before .before .loop .inv in
-    let n = c .before .before .before .loop .n in
-    let l = c .before .before .before .loop .level in
-    let e : c .turned .result ≡ flipped l (c .before .before .before .before .args .w / 2 ^ (n - 1) % 2) =
-    c .turned .ensures .0 ∙ ap (flipped l) (c .before .bit-of .ensures) in
-    (omega arith, (c .turned .ensures .1, (omega (arith, v, c .turned .ensures .1), left-step _ l _ _ _ n (n - 1) (omega arith) e (v .1 .1 .1))))
+sub-t14 : tie.Need-sub-t14
+sub-t14 c = search needs
 
-cast-t7 : tie.Need-cast-t7 Inv-loop μ-loop
-cast-t7 c = search needs
-
-mul-t8 : tie.Need-mul-t8 Inv-loop μ-loop
-mul-t8 c = omega (arith, c .before .loop .inv)
-
-add-t9 : tie.Need-add-t9 Inv-loop μ-loop
-add-t9 c = omega (arith, c .before .before .loop .inv, c .before .before .before .pre .high)
-
-sub-t10 : tie.Need-sub-t10 Inv-loop μ-loop
-sub-t10 c = omega (arith, c .before .before .before .pre .low)
-
-returns : tie.Need-returns Inv-loop μ-loop
+returns : tie.Need-returns
 returns c =
-    let e : c .before .before .loop .n ≡ 0 = omega arith in
-    left-none _ _ _ _ (c .before .before .before .pre .level) (c .before .before .before .pre .low) (rw e at (c .before .before .loop .inv .1 .1 .1))
+    let s = c .before .before .before in
+    half-by-bytes (s .args .self) (s .args .w) _ _ (s .pre .1 .level) (s .pre .1 .low) (c .before .before .levels-of .ensures .0) (c .before .levels-of2 .ensures .0)
 
 pub half-spec : {M : Type 1} → statement M
 half-spec =
     tie.close
     (tie.spec
-    Inv-loop
-    μ-loop
-    loop-holds
-    sub-n
-    bit-of-requires
-    turned-requires
-    add-ones
-    loop-less
-    loop-again
-    cast-t7
-    mul-t8
-    add-t9
-    sub-t10
+    cast-levels-of
+    levels-of-requires
+    cast-levels-of-2
+    levels-of-requires-2
+    add-t10
+    cast-t11
+    mul-t12
+    add-t13
+    sub-t14
     returns)

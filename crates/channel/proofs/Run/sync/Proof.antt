@@ -14,7 +14,7 @@ half-requires : tie.Need-half-requires
 half-requires c κs = search needs
 
 word-requires : tie.Need-word-requires
-word-requires c κs = subst (λ (r : Run). Room r 16) (sym (c .half .ensures)) (room-after _ _ 16 (_ ∷ []) (c .before .pre))
+word-requires c κs = (c .before .pre .0, subst (λ (r : Run). Room r 16) (sym (c .half .ensures)) (room-after _ _ 16 (_ ∷ []) (c .before .pre .1)))
 
 returns : tie.Need-returns
 returns c =
