@@ -10,6 +10,7 @@ ghost use Rattle.annexg.specs.Sync.{syncTable};
 ghost use Rattle.channel.specs.Block.{halfAt, packed};
 ghost use Rattle.channel.specs.Channel.{swaps};
 ghost use Rattle.channel.specs.Level.{magnitude, runAfter, Room};
+ghost use Rattle.channel.specs.Levels.{levelTable};
 ghost use Rattle.streams.specs.Streams.{Two, swapPossible, step, steps, opened, beyond};
 ghost use Rattle.writer.specs.Inner.{Shows, planOf, Evened, Ready, Begins, Closes, Framed};
 use super::Pair;
@@ -134,13 +135,14 @@ fn even(s1: &mut [u8], s2: &mut [u8], copying: bool, first: bool, a: usize, e: u
 fn step_byte(
     m: &[u32; 1024],
     u: &[u32; 352],
+    v: &[u8; 256],
     p: Pair,
     b: u8,
     at: usize,
     s1: &mut [u8],
     s2: &mut [u8],
 ) -> Pair
-    requires { ⌜ Ready p at (now s1) (now s2) × ((now m ≡ tableOf 0) × (now u ≡ tableOf 1)) ⌝ }
+    requires { ⌜ (now v ≡ levelTable) × (Ready p at (now s1) (now s2) × ((now m ≡ tableOf 0) × (now u ≡ tableOf 1))) ⌝ }
     ensures { λ r. ⌜ ((t : Two) → Shows p (now (s1 .entry)) (now (s2 .entry)) at t → Shows r (now (s1 .exit)) (now (s2 .exit)) (at + 2) (step t b)) ⌝ }
 {
     let one = p.one;
@@ -152,8 +154,8 @@ fn step_byte(
     let shared = even(&mut *s1, &mut *s2, plan.copy, first, p.shared, at);
     let from1 = pick_side(plan.copy, low, one);
     let from2 = pick_side(plan.copy, low, two);
-    let one = lay_word(m, u, from1, b, plan.one, at, &mut *s1);
-    let two = lay_word(m, u, from2, b, plan.two, at, &mut *s2);
+    let one = lay_word(m, u, v, from1, b, plan.one, at, &mut *s1);
+    let two = lay_word(m, u, v, from2, b, plan.two, at, &mut *s2);
     Pair { one, two, shared }
 }
 
@@ -162,17 +164,18 @@ fn fill(
     m: &[u32; 1024],
     u: &[u32; 352],
     y: &[u16; 32],
+    v: &[u8; 256],
     r: Run,
     n: u8,
     bytes: &[u8],
     s1: &mut [u8],
     s2: &mut [u8],
 ) -> Pair
-    requires { ⌜ (now m ≡ tableOf 0) × ((now u ≡ tableOf 1) × ((now y ≡ syncTable) × Begins r n (now bytes) (now s1) (now s2))) ⌝ }
+    requires { ⌜ (now v ≡ levelTable) × ((now m ≡ tableOf 0) × ((now u ≡ tableOf 1) × ((now y ≡ syncTable) × Begins r n (now bytes) (now s1) (now s2)))) ⌝ }
     ensures { λ p. ⌜ Shows p (now (s1 .exit)) (now (s2 .exit)) 186 (steps (opened r n) (now (bytes .entry))) ⌝ }
 {
-    let one = lay_sync(y, r, n, false, &mut *s1);
-    let two = lay_sync(y, r, n, true, &mut *s2);
+    let one = lay_sync(y, v, r, n, false, &mut *s1);
+    let two = lay_sync(y, v, r, n, true, &mut *s2);
     let mut p = Pair {
         one,
         two,
@@ -180,7 +183,7 @@ fn fill(
     };
     for i in 0..91usize {
         let b = bytes[i];
-        p = step_byte(m, u, p, b, 4 + 2 * i, &mut *s1, &mut *s2);
+        p = step_byte(m, u, v, p, b, 4 + 2 * i, &mut *s1, &mut *s2);
     }
     p
 }
@@ -224,20 +227,20 @@ fn is_beyond(d: u64) -> bool
 }
 
 // The running record over a frame in a buffer, counted anew with another first half word; the State stays.
-fn recount(r: Run, h: u16, s: &[u8]) -> Run
-    requires { ⌜ Room r 1488 × (length (now s) ≡ 186) ⌝ }
+fn recount(v: &[u8; 256], r: Run, h: u16, s: &[u8]) -> Run
+    requires { ⌜ (now v ≡ levelTable) × (Room r 1488 × (length (now s) ≡ 186)) ⌝ }
     ensures { λ q. ⌜ ((hs : List ℕ) → now (s .entry) ≡ packed hs → q ≡ runAfter r (r .state) (h ∷ drop 1 hs)) ⌝ }
 {
-    let mut run = r.half(h);
+    let mut run = r.half(v, h);
     for i in 0..92usize {
-        run = run.half(half_at(s, i + 1));
+        run = run.half(v, half_at(s, i + 1));
     }
     run
 }
 
 // The frame's end in the buffer of the lower stream: the other SYNC Code is tried where the DSV is beyond, and kept if the absolute DSV gets smaller.
-fn change(y: &[u16; 32], r: Run, n: u8, low: Run, s: &mut [u8]) -> Run
-    requires { ⌜ (now y ≡ syncTable) × (State (r .state) × ((n < 8) × (Room r 1488 × (length (now s) ≡ 186)))) ⌝ }
+fn change(y: &[u16; 32], v: &[u8; 256], r: Run, n: u8, low: Run, s: &mut [u8]) -> Run
+    requires { ⌜ (now v ≡ levelTable) × ((now y ≡ syncTable) × (State (r .state) × ((n < 8) × (Room r 1488 × (length (now s) ≡ 186))))) ⌝ }
     ensures { λ q. ⌜ Closes r n low (now (s .entry)) (now (s .exit)) q ⌝ }
 {
     if !is_beyond(low.dsv) {
@@ -246,7 +249,7 @@ fn change(y: &[u16; 32], r: Run, n: u8, low: Run, s: &mut [u8]) -> Run
     let p = annexg::sync_code(y, r.state, n, false);
     let q = annexg::sync_code(y, r.state, n, true);
     let h = other_of(half_at(&*s, 0), p, q);
-    let other = recount(r, h, &*s);
+    let other = recount(v, r, h, &*s);
     if absolute(other.dsv) < absolute(low.dsv) {
         put(&mut *s, 0, h);
         return Run {
@@ -263,22 +266,23 @@ pub(crate) fn frame(
     m: &[u32; 1024],
     u: &[u32; 352],
     y: &[u16; 32],
+    v: &[u8; 256],
     r: Run,
     n: u8,
     bytes: &[u8],
     s1: &mut [u8],
     s2: &mut [u8],
 ) -> Shown
-    requires { ⌜ (now m ≡ tableOf 0) × ((now u ≡ tableOf 1) × ((now y ≡ syncTable) × Begins r n (now bytes) (now s1) (now s2))) ⌝ }
+    requires { ⌜ (now v ≡ levelTable) × ((now m ≡ tableOf 0) × ((now u ≡ tableOf 1) × ((now y ≡ syncTable) × Begins r n (now bytes) (now s1) (now s2)))) ⌝ }
     ensures { λ q. ⌜ Framed r n (now (bytes .entry)) (now (s1 .exit)) (now (s2 .exit)) q ⌝ }
 {
-    let p = fill(m, u, y, r, n, bytes, &mut *s1, &mut *s2);
+    let p = fill(m, u, y, v, r, n, bytes, &mut *s1, &mut *s2);
     let one = p.one.run;
     let two = p.two.run;
     if lower(one.dsv, two.dsv) {
-        let run = change(y, r, n, one, &mut *s1);
+        let run = change(y, v, r, n, one, &mut *s1);
         return Shown { run, first: true };
     }
-    let run = change(y, r, n, two, &mut *s2);
+    let run = change(y, v, r, n, two, &mut *s2);
     Shown { run, first: false }
 }

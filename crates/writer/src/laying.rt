@@ -6,6 +6,7 @@ ghost use Rattle.annexg.specs.Read.{State, tableOf};
 ghost use Rattle.annexg.specs.Sync.{syncTable};
 ghost use Rattle.channel.specs.Channel.{sync};
 ghost use Rattle.channel.specs.Level.{Room};
+ghost use Rattle.channel.specs.Levels.{levelTable};
 ghost use Rattle.streams.specs.Streams.{fresh, lay};
 ghost use Rattle.writer.specs.Inner.{tableFor, columnFor, Part, Next, Worded};
 use super::Side;
@@ -43,13 +44,14 @@ fn column_for(s: u8, b: u8, c: bool) -> u8
 pub(crate) fn lay_word(
     m: &[u32; 1024],
     u: &[u32; 352],
+    v: &[u8; 256],
     d: Side,
     b: u8,
     c: bool,
     at: usize,
     s: &mut [u8],
 ) -> Side
-    requires { ⌜ (now m ≡ tableOf 0) × ((now u ≡ tableOf 1) × Next d at (now s)) ⌝ }
+    requires { ⌜ (now v ≡ levelTable) × ((now m ≡ tableOf 0) × ((now u ≡ tableOf 1) × Next d at (now s))) ⌝ }
     ensures { λ q. ⌜ Worded d b c at (now (s .entry)) (now (s .exit)) q ⌝ }
 {
     let run = d.run;
@@ -58,18 +60,18 @@ pub(crate) fn lay_word(
     let w = annexg::word_at(m, u, t, b, k);
     let next = annexg::next_at(m, u, t, b, k);
     put(&mut *s, at, w);
-    let run = run.word(w, next);
+    let run = run.word(v, w, next);
     Side { run, tail: w }
 }
 
 // A SYNC Code at the front of a buffer.
-pub(crate) fn lay_sync(y: &[u16; 32], r: Run, n: u8, c: bool, s: &mut [u8]) -> Side
-    requires { ⌜ (now y ≡ syncTable) × (Room r 32 × (4 ≤ length (now s))) ⌝ }
+pub(crate) fn lay_sync(y: &[u16; 32], v: &[u8; 256], r: Run, n: u8, c: bool, s: &mut [u8]) -> Side
+    requires { ⌜ (now v ≡ levelTable) × ((now y ≡ syncTable) × (Room r 32 × (4 ≤ length (now s)))) ⌝ }
     ensures { λ q. ⌜ Part q (now (s .exit)) 4 (lay (fresh r) (sync n) c) ⌝ }
 {
     let h = annexg::sync_code(y, r.state, n, c);
     put(&mut *s, 0, h);
     put(&mut *s, 2, 0x0011);
-    let run = r.sync(h);
+    let run = r.sync(v, h);
     Side { run, tail: 0x0011 }
 }

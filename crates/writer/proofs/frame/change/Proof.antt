@@ -55,8 +55,8 @@ returns-2 c =
     let a = c .before .before .before .before .before .before .before .before .before .before .before .before .before .before .before .before .before in
     closes-new (a .args .r) (a .args .low) (c .before .before .before .before .before .before .before .recount .result) (a .args .n) (a .args .s .now) (c .before .before .before .before .before .before .before .before .before .before .before .before .before .sync-code .result) (c .before .before .before .before .before .before .before .before .before .before .before .before .sync-code2 .result) (c .before .before .before .before .before .before .before .before .before .before .half-at .result) (c .before .before .before .before .before .before .before .before .before .other-of .result)
     (record {
-      state = a .pre .1 .0;
-      code = a .pre .1 .1 .0;
+      state = a .pre .1 .1 .0;
+      code = a .pre .1 .1 .1 .0;
       out = sym (c .before .before .before .before .before .before .before .before .before .before .before .before .before .before .before .is-beyond .ensures) ∙ not-false (c .before .before .before .before .before .before .before .before .before .before .before .before .before .before .before .is-beyond .result) (c .before .before .before .before .before .before .before .before .before .before .before .before .before .before .if1 .left);
       p-is = c .before .before .before .before .before .before .before .before .before .before .before .before .before .sync-code .ensures;
       q-is = c .before .before .before .before .before .before .before .before .before .before .before .before .sync-code2 .ensures;
@@ -76,8 +76,8 @@ returns-3 c =
     let a = c .before .before .before .before .before .before .before .before .before .before .before .before .before in
     closes-same (a .args .r) (a .args .low) (c .before .before .before .recount .result) (a .args .n) (a .args .s .now) (c .before .before .before .before .before .before .before .before .before .sync-code .result) (c .before .before .before .before .before .before .before .before .sync-code2 .result) (c .before .before .before .before .before .before .half-at .result) (c .before .before .before .before .before .other-of .result)
     (record {
-      state = a .pre .1 .0;
-      code = a .pre .1 .1 .0;
+      state = a .pre .1 .1 .0;
+      code = a .pre .1 .1 .1 .0;
       out = sym (c .before .before .before .before .before .before .before .before .before .before .before .is-beyond .ensures) ∙ not-false (c .before .before .before .before .before .before .before .before .before .before .before .is-beyond .result) (c .before .before .before .before .before .before .before .before .before .before .if1 .left);
       p-is = c .before .before .before .before .before .before .before .before .before .sync-code .ensures;
       q-is = c .before .before .before .before .before .before .before .before .sync-code2 .ensures;

@@ -9,26 +9,26 @@ use Rattle.writer.proofs.frame.fill.Statement.{statement}
 use Rattle.writer.proofs.frame.fill.Tie as tie
 
 abbrev Inv-loop : tie.InvT-loop
-Inv-loop m u y n bytes s1₀ s2₀ p₀ i₀ s1 s2 p i = (i ≤ 91) × ((length s1 ≡ 186) × ((length s2 ≡ 186) × Filled p₀ s1₀ s2₀ bytes i p s1 s2))
+Inv-loop m u y v n bytes s1₀ s2₀ p₀ i₀ s1 s2 p i = (i ≤ 91) × ((length s1 ≡ 186) × ((length s2 ≡ 186) × Filled p₀ s1₀ s2₀ bytes i p s1 s2))
 
 abbrev μ-loop : tie.MeasureT-loop
-μ-loop m u y n bytes s1₀ s2₀ p₀ i₀ s1 s2 p i = 91 - i
+μ-loop m u y v n bytes s1₀ s2₀ p₀ i₀ s1 s2 p i = 91 - i
 
 -- src/frame.rt:157:9
 lay-sync-requires : tie.Need-lay-sync-requires Inv-loop μ-loop
-lay-sync-requires c κs = let g = c .before .before .before .before .pre .1 .1 in (g .0, (room-le _ 32 1488 (omega arith) (g .1 .room), omega (arith, g .1 .one)))
+lay-sync-requires c κs = let a = c .before .before .before .before in let g = a .pre .1 .1 .1 in (a .pre .0, (g .0, (room-le _ 32 1488 (omega arith) (g .1 .room), omega (arith, g .1 .one))))
 
 -- src/frame.rt:158:9
 lay-sync-requires-2 : tie.Need-lay-sync-requires-2 Inv-loop μ-loop
-lay-sync-requires-2 c κs = let g = c .before .before .before .before .before .before .before .before .pre .1 .1 in (g .0, (room-le _ 32 1488 (omega arith) (g .1 .room), omega (arith, g .1 .two)))
+lay-sync-requires-2 c κs = let a = c .before .before .before .before .before .before .before .before in let g = a .pre .1 .1 .1 in (a .pre .0, (g .0, (room-le _ 32 1488 (omega arith) (g .1 .room), omega (arith, g .1 .two))))
 
 -- src/frame.rt:164:5
 loop-holds : tie.Need-loop-holds Inv-loop μ-loop
-loop-holds c = let g = c .before .before .before .before .before .before .before .before .before .before .before .pre .1 .1 .1 in (omega arith, (omega (arith, g .one), (omega (arith, g .two), filled-none _ _ _ _)))
+loop-holds c = let g = c .before .before .before .before .before .before .before .before .before .before .before .pre .1 .1 .1 .1 in (omega arith, (omega (arith, g .one), (omega (arith, g .two), filled-none _ _ _ _)))
 
 -- src/frame.rt:165:17
 shared-slice-read-b : tie.Need-shared-slice-read-b Inv-loop μ-loop
-shared-slice-read-b c = omega arith
+shared-slice-read-b c = omega (arith, c .before .before .before .before .before .before .before .before .before .before .before .before .before .before .pre .1 .1 .1 .1 .bytes)
 
 -- src/frame.rt:166:39
 mul-step-byte : tie.Need-mul-step-byte Inv-loop μ-loop
@@ -44,9 +44,12 @@ step-byte-requires c κs =
     let v = c .before .before .before .before .loop .inv in
     let a = c .before .before .before .before .before .before .before .before .before .before .before .before .before .before .before .before in
     let s = shows-opened (a .args .r) (a .args .n) _ _ _ _ (c .before .before .before .before .before .before .before .before .before .before .before .lay-sync .ensures) (c .before .before .before .before .before .before .before .lay-sync2 .ensures) in (
-      ready (a .args .r) (a .args .n) (a .args .bytes .now) _ _ (a .pre .1 .1 .1) (bytes-of _ (λ j h. omega (arith, c .before .before .shared-slice-known2 .given j))) (c .before .before .before .before .loop .i) (omega arith)
-          (c .before .before .before .before .loop .p) _ _ (v .1 .0) (v .1 .1 .0) (filled-use _ _ _ _ _ _ (a .args .bytes .now) _ _ s (v .1 .1 .1)),
-      (a .pre .0, a .pre .1 .0),
+      a .pre .0,
+      (
+        ready (a .args .r) (a .args .n) (a .args .bytes .now) _ _ (a .pre .1 .1 .1 .1) (bytes-of _ (λ j h. omega (arith, c .before .before .shared-slice-known2 .given j))) (c .before .before .before .before .loop .i) (omega arith)
+            (c .before .before .before .before .loop .p) _ _ (v .1 .0) (v .1 .1 .0) (filled-use _ _ _ _ _ _ (a .args .bytes .now) _ _ s (v .1 .1 .1)),
+        (a .pre .1 .0, a .pre .1 .1 .0),
+      ),
     )
 
 -- src/frame.rt:164:9
@@ -67,18 +70,18 @@ loop-again c =
         omega arith,
         (
           omega arith,
-          filled-more _ _ _ _ _ _ _ _ _ (a .args .bytes .now) (c .before .before .before .before .before .before .before .before .before .loop .i) (omega (arith, a .pre .1 .1 .1 .bytes)) (v .1 .1 .1) (c .before .before .before .before .step-byte .ensures),
+          filled-more _ _ _ _ _ _ _ _ _ (a .args .bytes .now) (c .before .before .before .before .before .before .before .before .before .loop .i) (omega (arith, a .pre .1 .1 .1 .1 .bytes)) (v .1 .1 .1) (c .before .before .before .before .step-byte .ensures),
         ),
       ),
     )
 
 -- src/frame.rt:153:1
 same-length : tie.Need-same-length Inv-loop μ-loop
-same-length c = omega (arith, c .before .before .before .before .before .before .before .before .before .before .before .before .before .pre .1 .1 .1 .one)
+same-length c = omega (arith, c .before .before .before .before .before .before .before .before .before .before .before .before .before .pre .1 .1 .1 .1 .one)
 
 -- src/frame.rt:153:1
 same-length-2 : tie.Need-same-length-2 Inv-loop μ-loop
-same-length-2 c = omega (arith, c .before .before .before .before .before .before .before .before .before .before .before .before .before .pre .1 .1 .1 .two)
+same-length-2 c = omega (arith, c .before .before .before .before .before .before .before .before .before .before .before .before .before .pre .1 .1 .1 .1 .two)
 
 -- src/frame.rt:153:1
 returns : tie.Need-returns Inv-loop μ-loop
@@ -86,7 +89,7 @@ returns c =
     let v = c .before .loop .inv in
     let a = c .before .before .before .before .before .before .before .before .before .before .before .before .before in
     let s = shows-opened (a .args .r) (a .args .n) _ _ _ _ (c .before .before .before .before .before .before .before .before .lay-sync .ensures) (c .before .before .before .before .lay-sync2 .ensures) in
-    filled-all _ _ _ _ _ _ (a .args .bytes .now) (c .before .loop .i) _ (omega arith) (a .pre .1 .1 .1 .bytes) s (v .1 .1 .1)
+    filled-all _ _ _ _ _ _ (a .args .bytes .now) (c .before .loop .i) _ (omega arith) (a .pre .1 .1 .1 .1 .bytes) s (v .1 .1 .1)
 
 pub fill-spec : {M : Type 1} → statement M
 fill-spec =

@@ -14,7 +14,7 @@ lower-requires c κs = search needs
 
 -- src/frame.rt:253:13
 change-requires : tie.Need-change-requires
-change-requires c κs = let a = c .before .before .before .before .before .before .before .before .before .before .before .before .before .before .before .pre .1 .1 in (a .0, (a .1 .state, (a .1 .code, (a .1 .room, omega (arith, a .1 .one)))))
+change-requires c κs = let s = c .before .before .before .before .before .before .before .before .before .before .before .before .before .before .before in let a = s .pre .1 .1 .1 in (s .pre .0, (a .0, (a .1 .state, (a .1 .code, (a .1 .room, omega (arith, a .1 .one))))))
 
 -- src/frame.rt:254:9
 same-length : tie.Need-same-length
@@ -28,12 +28,12 @@ same-length-2 c = search needs
 returns : tie.Need-returns
 returns c =
     let a = c .before .before .before .before .before .before .before .before .before .before .before .before .before .before .before .before .before .before in
-    let g = a .pre .1 .1 .1 in
+    let g = a .pre .1 .1 .1 .1 in
     framed-first (a .args .r) (a .args .n) (a .args .bytes .now) _ _ _ (c .before .before .before .before .before .before .before .before .before .before .before .before .fill .ensures) (omega (arith, g .one)) (omega (arith, g .two)) _ _ _ (c .before .before .before .before .before .lower .ensures) (c .before .before .before .before .if1 .taken) (c .before .before .change .ensures)
 
 -- src/frame.rt:259:9
 change-requires-2 : tie.Need-change-requires-2
-change-requires-2 c κs = let a = c .before .before .before .before .before .before .before .before .before .before .before .before .before .before .before .pre .1 .1 in (a .0, (a .1 .state, (a .1 .code, (a .1 .room, omega (arith, a .1 .two)))))
+change-requires-2 c κs = let s = c .before .before .before .before .before .before .before .before .before .before .before .before .before .before .before in let a = s .pre .1 .1 .1 in (s .pre .0, (a .0, (a .1 .state, (a .1 .code, (a .1 .room, omega (arith, a .1 .two))))))
 
 -- src/frame.rt:245:1
 same-length-3 : tie.Need-same-length-3
@@ -47,7 +47,7 @@ same-length-4 c = search needs
 returns-2 : tie.Need-returns-2
 returns-2 c =
     let a = c .before .before .before .before .before .before .before .before .before .before .before .before .before .before .before .before .before .before in
-    let g = a .pre .1 .1 .1 in
+    let g = a .pre .1 .1 .1 .1 in
     framed-second (a .args .r) (a .args .n) (a .args .bytes .now) _ _ _ (c .before .before .before .before .before .before .before .before .before .before .before .before .fill .ensures) (omega (arith, g .one)) (omega (arith, g .two)) _ _ _ (c .before .before .before .before .before .lower .ensures) (c .before .before .before .before .if1 .left) (c .before .before .change2 .ensures)
 
 pub frame-spec : {M : Type 1} → statement M

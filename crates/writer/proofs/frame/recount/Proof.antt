@@ -7,18 +7,18 @@ use Rattle.writer.proofs.frame.recount.Statement.{statement}
 use Rattle.writer.proofs.frame.recount.Tie as tie
 
 abbrev Inv-loop : tie.InvT-loop
-Inv-loop h s run₀ i₀ run i = (i ≤ 92) × (Room run (16 * (92 - i)) × Recounted run₀ run s i)
+Inv-loop v h s run₀ i₀ run i = (i ≤ 92) × (Room run (16 * (92 - i)) × Recounted run₀ run s i)
 
 abbrev μ-loop : tie.MeasureT-loop
-μ-loop h s run₀ i₀ run i = 92 - i
+μ-loop v h s run₀ i₀ run i = 92 - i
 
 -- src/frame.rt:214:9
 half-requires : tie.Need-half-requires Inv-loop μ-loop
-half-requires c κs = room-le _ 16 1488 (omega arith) (c .before .pre .0)
+half-requires c κs = (c .before .pre .0, room-le _ 16 1488 (omega arith) (c .before .pre .1 .0))
 
 -- src/frame.rt:215:5
 loop-holds : tie.Need-loop-holds Inv-loop μ-loop
-loop-holds c = (omega arith, (room-next _ _ _ 1488 1472 refl (c .before .before .pre .0) (c .half .ensures), recount-none _ _))
+loop-holds c = (omega arith, (room-next _ _ _ 1488 1472 refl (c .before .before .pre .1 .0) (c .half .ensures), recount-none _ _))
 
 -- src/frame.rt:216:35
 add-half-at : tie.Need-add-half-at Inv-loop μ-loop
@@ -26,11 +26,13 @@ add-half-at c = omega arith
 
 -- src/frame.rt:216:24
 half-at-requires : tie.Need-half-at-requires Inv-loop μ-loop
-half-at-requires c κs = (omega arith, omega (arith, c .before .before .before .before .pre .1))
+half-at-requires c κs = (omega arith, omega (arith, c .before .before .before .before .pre .1 .1))
 
 -- src/frame.rt:216:9
 half-requires-2 : tie.Need-half-requires-2 Inv-loop μ-loop
-half-requires-2 c κs = let i = c .before .before .loop .i in room-le _ 16 (16 * (92 - i)) (omega arith) (c .before .before .loop .inv .1 .0)
+half-requires-2 c κs =
+    let i = c .before .before .loop .i in
+    (c .before .before .before .before .before .pre .0, room-le _ 16 (16 * (92 - i)) (omega arith) (c .before .before .loop .inv .1 .0))
 
 -- src/frame.rt:215:9
 add-i : tie.Need-add-i Inv-loop μ-loop
@@ -48,7 +50,7 @@ loop-again c =
       omega arith,
       (
         room-next _ _ _ (16 * (92 - i)) (16 * (92 - (i + 1))) (omega arith) (v .1 .0) (c .half2 .ensures),
-        recount-more _ _ _ _ i _ (omega arith) (c .before .before .before .before .before .before .pre .1) (c .before .half-at .ensures) (c .half2 .ensures) (v .1 .1),
+        recount-more _ _ _ _ i _ (omega arith) (c .before .before .before .before .before .before .pre .1 .1) (c .before .half-at .ensures) (c .half2 .ensures) (v .1 .1),
       ),
     )
 
@@ -56,7 +58,7 @@ loop-again c =
 returns : tie.Need-returns Inv-loop μ-loop
 returns c =
     let a = c .before .before .before .before in
-    recount-all (a .args .r) _ _ _ (c .before .loop .i) (a .args .h) (omega arith) (a .pre .1) (c .before .before .half .ensures) (c .before .loop .inv .1 .1)
+    recount-all (a .args .r) _ _ _ (c .before .loop .i) (a .args .h) (omega arith) (a .pre .1 .1) (c .before .before .half .ensures) (c .before .loop .inv .1 .1)
 
 pub recount-spec : {M : Type 1} → statement M
 recount-spec =

@@ -22,7 +22,7 @@ plan-requires c κs = search needs
 
 -- src/frame.rt:140:9
 even-requires : tie.Need-even-requires
-even-requires c κs = let r = c .before .before .before .before .before .before .before .before .before .before .pre .0 in (r .early, (omega (arith, r .one .long), (omega (arith, r .two .long), r .agree)))
+even-requires c κs = let r = c .before .before .before .before .before .before .before .before .before .before .pre .1 .0 in (r .early, (omega (arith, r .one .long), (omega (arith, r .two .long), r .agree)))
 
 -- src/frame.rt:141:9
 pick-side-requires-2 : tie.Need-pick-side-requires-2
@@ -36,14 +36,17 @@ pick-side-requires-3 c κs = search needs
 lay-word-requires : tie.Need-lay-word-requires
 lay-word-requires c κs =
     let a = c .before .before .before .before .before .before .before .before .before .before .before .before .before .before .before .before .before .before in
-    let r = a .pre .0 in
+    let r = a .pre .1 .0 in
     let at = a .args .at in
     let n = next-in (a .args .p .one) at _ (c .before .before .before .before .before .before .before .even .last .0) (omega (arith, r .one .long)) (r .one) in (
-      a .pre .1 .0,
+      a .pre .0,
       (
-        a .pre .1 .1,
-        picked-next (c .before .before .before .before .before .before .before .before .before .before .plan .result .copy) (c .before .before .before .before .before .before .before .before .before .before .before .before .pick-side .result) (a .args .p .one) _ at _ (c .before .before .pick-side2 .ensures)
-            (picked-next (c .before .before .before .before .before .before .before .before .before .before .before .before .before .lower .result) (a .args .p .one) (a .args .p .two) _ at _ (c .before .before .before .before .before .before .before .before .before .before .before .before .pick-side .ensures) n (next-in (a .args .p .two) at _ _ (n .long) (r .two))) n,
+        a .pre .1 .1 .0,
+        (
+          a .pre .1 .1 .1,
+          picked-next (c .before .before .before .before .before .before .before .before .before .before .plan .result .copy) (c .before .before .before .before .before .before .before .before .before .before .before .before .pick-side .result) (a .args .p .one) _ at _ (c .before .before .pick-side2 .ensures)
+              (picked-next (c .before .before .before .before .before .before .before .before .before .before .before .before .before .lower .result) (a .args .p .one) (a .args .p .two) _ at _ (c .before .before .before .before .before .before .before .before .before .before .before .before .pick-side .ensures) n (next-in (a .args .p .two) at _ _ (n .long) (r .two))) n,
+        ),
       ),
     )
 
@@ -51,20 +54,23 @@ lay-word-requires c κs =
 lay-word-requires-2 : tie.Need-lay-word-requires-2
 lay-word-requires-2 c κs =
     let a = c .before .before .before .before .before .before .before .before .before .before .before .before .before .before .before .before .before .before .before .before .before .before in
-    let r = a .pre .0 in
+    let r = a .pre .1 .0 in
     let at = a .args .at in
     let n = next-in (a .args .p .two) at _ (c .before .before .before .before .before .before .before .before .before .before .before .even .last .1 .0) (omega (arith, r .two .long)) (r .two) in (
-      a .pre .1 .0,
+      a .pre .0,
       (
-        a .pre .1 .1,
-        picked-next (c .before .before .before .before .before .before .before .before .before .before .before .before .before .before .plan .result .copy) (c .before .before .before .before .before .before .before .before .before .before .before .before .before .before .before .before .pick-side .result) (a .args .p .two) _ at _ (c .before .before .before .before .before .pick-side3 .ensures)
-            (picked-next (c .before .before .before .before .before .before .before .before .before .before .before .before .before .before .before .before .before .lower .result) (a .args .p .one) (a .args .p .two) _ at _ (c .before .before .before .before .before .before .before .before .before .before .before .before .before .before .before .before .pick-side .ensures) (next-in (a .args .p .one) at _ _ (n .long) (r .one)) n) n,
+        a .pre .1 .1 .0,
+        (
+          a .pre .1 .1 .1,
+          picked-next (c .before .before .before .before .before .before .before .before .before .before .before .before .before .before .plan .result .copy) (c .before .before .before .before .before .before .before .before .before .before .before .before .before .before .before .before .pick-side .result) (a .args .p .two) _ at _ (c .before .before .before .before .before .pick-side3 .ensures)
+              (picked-next (c .before .before .before .before .before .before .before .before .before .before .before .before .before .before .before .before .before .lower .result) (a .args .p .one) (a .args .p .two) _ at _ (c .before .before .before .before .before .before .before .before .before .before .before .before .before .before .before .before .pick-side .ensures) (next-in (a .args .p .one) at _ _ (n .long) (r .one)) n) n,
+        ),
       ),
     )
 
 -- src/frame.rt:130:1
 same-length : tie.Need-same-length
-same-length c = search needs
+same-length c = omega (arith, c .before .before .before .before .before .before .before .before .before .before .before .before .before .s1 .given)
 
 -- src/frame.rt:130:1
 same-length-2 : tie.Need-same-length-2

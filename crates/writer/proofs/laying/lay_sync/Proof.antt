@@ -27,7 +27,7 @@ same-length c = search needs
 returns : tie.Need-returns
 returns c =
     let a = c .before .before .before .before .before .before .before .before .before .before .before in
-    synced (a .args .r) (a .args .n) _ (a .args .c) _ (a .args .s .now) _ _ (c .before .before .before .before .before .before .before .before .before .sync-code .ensures) (c .before .before .before .before .before .before .before .put .ensures) (c .before .before .before .put2 .ensures) (c .sync .ensures) (a .pre .1 .1)
+    synced (a .args .r) (a .args .n) _ (a .args .c) _ (a .args .s .now) _ _ (c .before .before .before .before .before .before .before .before .before .sync-code .ensures) (c .before .before .before .before .before .before .before .put .ensures) (c .before .before .before .put2 .ensures) (c .sync .ensures) (a .pre .1 .1 .1)
 
 pub lay-sync-spec : {M : Type 1} → statement M
 lay-sync-spec =

@@ -36,7 +36,7 @@ returns : tie.Need-returns
 returns c =
     let a = c .before .before .before .before .before .before .before .before .before .before .before in
     worded (a .args .d) (a .args .b) (a .args .c) (a .args .at) _ _ _ _ _ _ _ (c .before .before .before .before .before .before .before .before .table-for .ensures) (c .before .before .before .before .before .before .before .column-for .ensures) (c .before .before .before .before .before .before .word-at .ensures)
-    (c .before .before .before .before .before .next-at .ensures) (c .before .before .before .put .ensures) (c .word .ensures) (a .pre .1 .1 .long)
+    (c .before .before .before .before .before .next-at .ensures) (c .before .before .before .put .ensures) (c .word .ensures) (a .pre .1 .1 .1 .long)
 
 pub lay-word-spec : {M : Type 1} → statement M
 lay-word-spec =

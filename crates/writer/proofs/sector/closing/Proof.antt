@@ -9,6 +9,9 @@ use Rattle.writer.proofs.sector.closing.Tie as tie
 sync-table-requires : tie.Need-sync-table-requires
 sync-table-requires c κs = search needs
 
+level-table-requires : tie.Need-level-table-requires
+level-table-requires c κs = search needs
+
 -- src/sector.rt:96:9
 lay-sync-requires : tie.Need-lay-sync-requires
 lay-sync-requires c κs = search needs
@@ -21,7 +24,7 @@ same-length c = search needs
 returns : tie.Need-returns
 returns c =
     let p = c .before .before .before .lay-sync .ensures in
-    record { run = p .run; bytes = sym (take-all 4 _ (omega (arith, c .before .before .before .before .before .before .before .before .pre .1))) ∙ p .bytes }
+    record { run = p .run; bytes = sym (take-all 4 _ (omega (arith, c .before .before .before .before .before .before .before .before .before .before .pre .1))) ∙ p .bytes }
 
 pub closing-spec : {M : Type 1} → statement M
-closing-spec = tie.close (tie.spec sync-table-requires lay-sync-requires same-length returns)
+closing-spec = tie.close (tie.spec sync-table-requires level-table-requires lay-sync-requires same-length returns)
