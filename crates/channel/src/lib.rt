@@ -11,7 +11,7 @@ ghost use Rattle.lists.specs.Count.{bit};
 ghost use Rattle.annexg.specs.Runs.{inside};
 ghost use Rattle.annexg.specs.Sync.{syncEnd};
 ghost use Rattle.channel.specs.Channel.{joinRun};
-ghost use Rattle.channel.specs.Level.{runAfter, Room};
+ghost use Rattle.channel.specs.Level.{magnitude, runAfter, Room};
 ghost use Rattle.channel.specs.Levels.{byteLevels, levelTable};
 ghost use Rattle.channel.specs.Block.{bitAt};
 ghost use Rattle.channel.specs.Bits.{blockRunFits, runsHold};
@@ -77,6 +77,17 @@ impl Run {
         ensures { λ r. ⌜ r ≡ runAfter self 1 (first ∷ syncEnd ∷ []) ⌝ }
     {
         self.half(d, first).word(d, 0x0011, 1)
+    }
+}
+
+// The absolute value of a DSV that is held with 0 at 2^40.
+pub fn absolute(d: u64) -> u64
+    ensures { λ r. ⌜ r ≡ magnitude d ⌝ }
+{
+    if d < 1099511627776 {
+        1099511627776 - d
+    } else {
+        d - 1099511627776
     }
 }
 

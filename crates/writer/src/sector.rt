@@ -9,9 +9,8 @@ ghost use Rattle.channel.specs.Block.{codeOf, frameCodes};
 ghost use Rattle.channel.specs.Level.{Room};
 ghost use Rattle.channel.specs.Levels.{levelTable};
 ghost use Rattle.streams.specs.Frames.{sectorOf, closingOf};
-ghost use Rattle.writer.specs.Inner.{Whole, SectorBegins, Pasted};
-use super::frame::frame;
-use super::laying::lay_sync;
+ghost use Rattle.frames.specs.Inner.{Whole};
+ghost use Rattle.writer.specs.Inner.{SectorBegins, Pasted};
 use channel::Run;
 
 // The part of the buffer whose stream is shown: Stream 1's where it is the lower.
@@ -102,7 +101,7 @@ fn frames(
         let a = 91 * k;
         let e = a + 91;
         let n = code_of(&codes, k);
-        let q = frame(m, u, y, v, run, n, &bytes[a..e], &mut *s1, &mut *s2);
+        let q = frames::frame(m, u, y, v, run, n, &bytes[a..e], &mut *s1, &mut *s2);
         let part = select(&*s1, &*s2, q.first);
         paste(part, &mut *out, 186 * k);
         run = q.run;
@@ -131,6 +130,6 @@ pub(crate) fn closing(r: Run, out: &mut [u8]) -> Run
 {
     let y = annexg::sync_table();
     let v = channel::level_table();
-    let d = lay_sync(&y, &v, r, 0, false, &mut *out);
+    let d = laying::lay_sync(&y, &v, r, 0, false, &mut *out);
     d.run
 }
