@@ -1,14 +1,10 @@
 -- The steps of the running record over half words, and what room they leave it.
 -- Assumes nothing.
 use mathlib.Core.Path.{_≡_, refl, sym, ap, subst, _∙_}
-use mathlib.Core.Bool.{Bool, true, false}
 use mathlib.Core.List.{List, [], _∷_, _++_, append-nil, append-assoc}
 use Prim.Native.Nat.{ℕ, zero, suc, _+_, _*_, _-_, _/_, _%_, _^_, _<_, _≤_}
 use native.Mathlib.Omega.{arith}
-use borrow.Author.Tests.{eqb-true, eqb-false}
-use lib.Dec.{eqb}
 use lib.ListN.{length, length-append}
-use Rattle.lists.specs.Count.{bit}
 use Rattle.annexg.specs.Runs.{bitsOf}
 use Rattle.channel.specs.Bits.{bitsAll}
 use Rattle.channel.specs.Level.{flipped, levelAfter, dsvAfter, runAfter, Room}
@@ -20,18 +16,6 @@ same-run p q r = λ i. record { state = p i; level = q i; dsv = r i }
 -- the record after halves, with another State
 pub other-state : (a r : Run) (w n : ℕ) → r ≡ runAfter a (a .state) (w ∷ []) → record { state = n; level = r .level; dsv = r .dsv } ≡ runAfter a n (w ∷ [])
 other-state a r w n e = same-run refl (ap (λ (x : Run). x .level) e) (ap (λ (x : Run). x .dsv) e)
-
-is-bit : (r : ℕ) (b : Bool) → eqb r 1 ≡ b → r < 2 → bit b ≡ r
-is-bit r true e h = sym (eqb-true r 1 e)
-is-bit r false e h = let n = eqb-false r 1 e in zero-bit r h n
-  where
-    zero-bit : (r : ℕ) → r < 2 → (r ≡ 1 → ⊥) → 0 ≡ r
-    zero-bit zero h n = refl
-    zero-bit (suc zero) h n = absurd (n refl)
-    zero-bit (suc (suc r)) h n = absurd (omega arith)
-
-pub odd-bit : (x : ℕ) → bit (eqb (x % 2) 1) ≡ x % 2
-odd-bit x = is-bit (x % 2) (eqb (x % 2) 1) refl (omega arith)
 
 -- ---- streams in parts
 

@@ -3,4 +3,3 @@ pub mod Block
 pub mod Bits
 pub mod Level
 pub mod Levels
-pub mod Inner

@@ -6,14 +6,15 @@ use mathlib.Core.List.{List, [], _∷_}
 use Prim.Native.Nat.{ℕ, zero, suc, _+_, _*_, _-_, _/_, _%_, _<_, _≤_}
 use native.Mathlib.Numerals.{add-one}
 use native.Mathlib.Omega.{arith}
-use borrow.Author.Tests.{ne-eqb, le-leb, lt-leb}
+use borrow.Author.Tests.{eqb-true, eqb-false, ne-eqb, le-leb, lt-leb}
 use lib.Dec.{eqb}
 use lib.ListN.{length, getD, drop, drop-of-length-le}
 use lib.Seq.{drop-cons}
+use Rattle.lists.specs.Count.{bit}
 use Rattle.channel.specs.Bits.{bitsBytes, blockRunFits, runsFrom}
 use Rattle.channel.specs.Block.{bitAt}
-use Rattle.channel.specs.Inner.{Scanned}
-use Rattle.channel.specs.declared.Scan.{Scan}
+use Rattle.runs.specs.Inner.{Scanned}
+use Rattle.runs.specs.declared.Scan.{Scan}
 
 -- ---- the test, by the case of the run
 
@@ -46,6 +47,18 @@ unfolding runsFrom
 scan-run a r j b f e g h s z o = record { so = λ bs. rw (e, g, s, z, o, add-one j, h, add-one (a .zeros)) (and-assoc (a .ok) (blockRunFits (j - suc (a .zeros)) (a .zeros)) (runsFrom true (suc j) 0 bs)) }
 
 -- ---- the bits of a stream, one by one
+
+is-bit : (r : ℕ) (b : Bool) → eqb r 1 ≡ b → r < 2 → bit b ≡ r
+is-bit r true e h = sym (eqb-true r 1 e)
+is-bit r false e h = let n = eqb-false r 1 e in zero-bit r h n
+  where
+    zero-bit : (r : ℕ) → r < 2 → (r ≡ 1 → ⊥) → 0 ≡ r
+    zero-bit zero h n = refl
+    zero-bit (suc zero) h n = absurd (n refl)
+    zero-bit (suc (suc r)) h n = absurd (omega arith)
+
+pub odd-bit : (x : ℕ) → bit (eqb (x % 2) 1) ≡ x % 2
+odd-bit x = is-bit (x % 2) (eqb (x % 2) 1) refl (omega arith)
 
 pub bits-long : (xs : List ℕ) → length (bitsBytes xs) ≡ 8 * length xs
 unfolding bitsBytes

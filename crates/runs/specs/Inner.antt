@@ -4,8 +4,8 @@ use mathlib.Core.Path.{_≡_}
 use mathlib.Core.Bool.{_&&_}
 use mathlib.Core.List.{List, _∷_}
 use Prim.Native.Nat.{ℕ, _+_}
 use Rattle.channel.specs.Bits.{runsFrom}
-use Rattle.channel.specs.declared.Scan.{Scan}
+use Rattle.runs.specs.declared.Scan.{Scan}
 
 -- what is still to be scanned after one bit, whatever bits come after it
 pub record Scanned (a : Scan) (j b : ℕ) (r : Scan) : Type 0 where

@@ -1,4 +1,4 @@
--- `channel::runs_ok` meets its contract. What is left of the test after j bits is the test of the bits from j on.
+-- `runs::runs_ok` meets its contract. What is left of the test after j bits is the test of the bits from j on.
 -- Assumes nothing.
 use mathlib.Core.Path.{_≡_, refl, sym, _∙_}
 use mathlib.Core.Bool.{_&&_}
@@ -6,10 +6,10 @@ use Prim.Native.Nat.{_*_, _-_, _≤_}
 use native.Mathlib.Omega.{arith}
 use borrow.Author.Tests.{le-leb, lt-leb}
 use lib.ListN.{length, drop}
 use Rattle.channel.specs.Bits.{bitsBytes, runsFrom, runsHold}
-use Rattle.channel.proofs.Scanning.{scan-more, scan-end}
-use Rattle.channel.proofs.runs_ok.Statement.{statement}
-use Rattle.channel.proofs.runs_ok.Tie as tie
+use Rattle.runs.proofs.Scanning.{scan-more, scan-end}
+use Rattle.runs.proofs.runs_ok.Statement.{statement}
+use Rattle.runs.proofs.runs_ok.Tie as tie
 
 abbrev Inv-loop : tie.InvT-loop
 Inv-loop s n scan₀ j₀ scan j = (j ≤ 8 * length s) × ((scan .zeros ≤ j) × (runsHold s ≡ (scan .ok && runsFrom (scan .seen) j (scan .zeros) (drop j (bitsBytes s)))))

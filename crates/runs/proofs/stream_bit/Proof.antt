@@ -1,10 +1,10 @@
--- `channel::stream_bit` meets its contract.
+-- `runs::stream_bit` meets its contract.
 -- Assumes nothing.
 use Rattle.channel.specs.Block.{bitAt}
-use Rattle.channel.proofs.Steps.{odd-bit}
+use Rattle.runs.proofs.Scanning.{odd-bit}
 use borrow.Author.Needs.{needs}
-use Rattle.channel.proofs.stream_bit.Statement.{statement}
-use Rattle.channel.proofs.stream_bit.Tie as tie
+use Rattle.runs.proofs.stream_bit.Statement.{statement}
+use Rattle.runs.proofs.stream_bit.Tie as tie
 
 sub-n : tie.Need-sub-n
 sub-n c = search needs

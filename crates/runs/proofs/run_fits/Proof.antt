@@ -1,8 +1,8 @@
--- `channel::run_fits` meets its contract.
+-- `runs::run_fits` meets its contract.
 -- Assumes nothing.
-use Rattle.channel.proofs.Scanning.{fits-low, fits-mid, fits-other, fits-thirteen}
-use Rattle.channel.proofs.run_fits.Statement.{statement}
-use Rattle.channel.proofs.run_fits.Tie as tie
+use Rattle.runs.proofs.Scanning.{fits-low, fits-mid, fits-other, fits-thirteen}
+use Rattle.runs.proofs.run_fits.Statement.{statement}
+use Rattle.runs.proofs.run_fits.Tie as tie
 
 returns : tie.Need-returns
 returns c = fits-low (c .before .args .i) _ (c .if1 .taken)

@@ -1,15 +1,15 @@
--- `channel::Scan::next` meets its contract. By the bit, whether a ONE was seen, and whether the run that ends here fits.
+-- `runs::Scan::next` meets its contract. By the bit, whether a ONE was seen, and whether the run that ends here fits.
 -- Assumes nothing.
 use mathlib.Core.Path.{refl, sym, ap, _∙_}
 use mathlib.Core.Bool.{true, false, and-true, and-false}
 use Prim.Native.Nat.{ℕ}
 use native.Mathlib.Omega.{arith}
 use Rattle.lists.specs.Count.{bit}
 use Rattle.channel.specs.Bits.{blockRunFits}
-use Rattle.channel.proofs.Scanning.{scan-zero, scan-first, scan-run}
+use Rattle.runs.proofs.Scanning.{scan-zero, scan-first, scan-run}
 use borrow.Author.Needs.{needs}
-use Rattle.channel.proofs.Scan.next.Statement.{statement}
-use Rattle.channel.proofs.Scan.next.Tie as tie
+use Rattle.runs.proofs.Scan.next.Statement.{statement}
+use Rattle.runs.proofs.Scan.next.Tie as tie
 
 before-requires : tie.Need-before-requires
 before-requires c κs = search needs
