@@ -14,7 +14,6 @@ use Rattle.annexg.specs.Runs.{bitsOf, inside}
 use Rattle.channel.specs.Bits.{bitsAll, bitsBytes, syncHalf, runFits, blockRunFits}
 use Rattle.channel.specs.Block.{codeOf, frames, blockItems, packed, closed, permittedChoices, permittedStream}
 use Rattle.channel.specs.Channel.{Item, sync, byte, permitted, stream, allProper}
-use Rattle.channel.proofs.HalfWords.{half-bits}
 use Rattle.channel.proofs.Places.{head-length, tail-length, proper-append, frames-proper}
 use Rattle.channel.proofs.Runs.{runs}
 
@@ -61,6 +60,13 @@ runs-frames zero g bs c cs e hb hc p head tail k q = runs 1 0 c [] cs hc (record
 runs-frames (suc n) g bs c cs e hb hc p head tail k q =
     runs 1 0 (codeOf g) ((map byte (take 91 bs) ++ frames (suc g) n (drop 91 bs)) ++ sync c ∷ []) cs
     (proper-append (frames g (suc n) bs) (sync c ∷ []) (frames-proper (suc n) g bs e hb) hc) (record { low = omega arith; high = omega arith }) p head tail k q
+
+cell : {x y : ℕ} {xs ys : List ℕ} → x ≡ y → xs ≡ ys → x ∷ xs ≡ y ∷ ys
+cell p q = cc
+
+-- the bits of a half are those of its two bytes
+pub half-bits : (h : ℕ) → bitsOf 16 h ≡ bitsOf 8 (h / 256) ++ bitsOf 8 (h % 256)
+half-bits h = cell (omega arith) (cell (omega arith) (cell (omega arith) (cell (omega arith) (cell (omega arith) (cell (omega arith) (cell (omega arith) (cell (omega arith) (cell (omega arith) (cell (omega arith) (cell (omega arith) (cell (omega arith) (cell (omega arith) (cell (omega arith) (cell (omega arith) (cell (omega arith) (refl))))))))))))))))
 
 pub packed-bits : (hs : List ℕ) → bitsAll hs ≡ bitsBytes (packed hs)
 unfolding bitsAll bitsBytes packed

@@ -12,8 +12,8 @@ use lib.Seq.{take-take}
 use Rattle.annexg.specs.Read.{wordOf}
 use Rattle.annexg.specs.Runs.{inside}
 use Rattle.channel.specs.Channel.{byte, swaps, joinRun}
-use Rattle.channel.specs.Level.{magnitude}
-use Rattle.channel.specs.declared.Run.{Run}
+use Rattle.levels.specs.Level.{magnitude}
+use Rattle.levels.specs.declared.Run.{Run}
 use Rattle.streams.specs.Streams.{Stream, lay, Two, oneLower, lower, swapPossible, swapMade, copied, kept, step}
 use Rattle.streams.proofs.Laid.{swap-lower}
 use Rattle.laying.specs.Sides.{Next}

@@ -17,11 +17,11 @@ use Rattle.annexg.proofs.Sync.{codes-differ}
 use Rattle.channel.specs.Bits.{bitsAll}
 use Rattle.channel.specs.Block.{packed, halfAt}
 use Rattle.channel.specs.Channel.{Item, byte, nextFor, lastFor, allowed, permitted, stream, stateAfter}
-use Rattle.channel.specs.Level.{magnitude, levelAfter, dsvAfter, runAfter, Room}
-use Rattle.channel.specs.declared.Run.{Run}
+use Rattle.levels.specs.Level.{magnitude, levelAfter, dsvAfter, runAfter, Room}
+use Rattle.levels.specs.declared.Run.{Run}
 use Rattle.channel.proofs.Damage.{half-packed}
 use Rattle.channel.proofs.Joined.{packed-length}
-use Rattle.channel.proofs.Steps.{same-run, run-append, room-after}
+use Rattle.levels.proofs.Steps.{same-run, run-append, room-after}
 use Rattle.streams.specs.Streams.{Stream, fresh, lay, layAll, frameItems, otherFirst, otherCode, beyond, changes, ended}
 use Rattle.streams.proofs.Laid.{Laid, laidBy, extended, all-laid, laid-fresh, other-permitted}
 use Rattle.laying.specs.Sides.{putAt}

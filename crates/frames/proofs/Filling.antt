@@ -15,8 +15,8 @@ use Rattle.lists.proofs.Test.{and-both}
 use Rattle.annexg.specs.Read.{State}
 use Rattle.channel.specs.Block.{packed}
 use Rattle.channel.specs.Channel.{sync, byte, proper, allProper}
-use Rattle.channel.specs.Level.{magnitude, Room}
-use Rattle.channel.specs.declared.Run.{Run}
+use Rattle.levels.specs.Level.{magnitude, Room}
+use Rattle.levels.specs.declared.Run.{Run}
 use Rattle.channel.proofs.Places.{proper-bytes}
 use Rattle.streams.specs.Streams.{Stream, fresh, lay, Two, oneLower, lower, step, steps, opened, frameItems, ended, frameOf}
 use Rattle.streams.proofs.Laid.{Laid, Both, steps-laid, opened-laid}

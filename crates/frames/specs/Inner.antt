@@ -9,8 +9,8 @@ use lib.ListN.{length, take}
 use Rattle.annexg.specs.Read.{State}
 use Rattle.channel.specs.Block.{packed}
 use Rattle.channel.specs.Channel.{byte}
-use Rattle.channel.specs.Level.{Room}
-use Rattle.channel.specs.declared.Run.{Run}
+use Rattle.levels.specs.Level.{Room}
+use Rattle.levels.specs.declared.Run.{Run}
 use Rattle.streams.proofs.Laid.{Laid}
 use Rattle.streams.specs.Streams.{Stream, lay, Two, oneLower, opened, steps, frameItems, ended, frameOf}
 use Rattle.laying.specs.Sides.{Next}

@@ -8,11 +8,11 @@ ghost use lib.ListN.{length, drop};
 ghost use Rattle.annexg.specs.Read.{State};
 ghost use Rattle.annexg.specs.Sync.{syncTable};
 ghost use Rattle.channel.specs.Block.{halfAt, packed};
-ghost use Rattle.channel.specs.Level.{runAfter, Room};
-ghost use Rattle.channel.specs.Levels.{levelTable};
+ghost use Rattle.levels.specs.Level.{runAfter, Room};
+ghost use Rattle.levels.specs.Levels.{levelTable};
 ghost use Rattle.streams.specs.Streams.{beyond};
 ghost use Rattle.frames.specs.Inner.{Closes};
-use channel::Run;
+use levels::Run;
 
 fn wide(x: u8) -> u16
     ensures { λ r. ⌜ (r ≡ x) × (r < 256) ⌝ }
@@ -74,7 +74,7 @@ pub(crate) fn change(y: &[u16; 32], v: &[u8; 256], r: Run, n: u8, low: Run, s: &
     let q = annexg::sync_code(y, r.state, n, true);
     let h = other_of(half_at(&*s, 0), p, q);
     let other = recount(v, r, h, &*s);
-    if channel::absolute(other.dsv) < channel::absolute(low.dsv) {
+    if levels::absolute(other.dsv) < levels::absolute(low.dsv) {
         laying::put(&mut *s, 0, h);
         return Run {
             state: low.state,

@@ -5,11 +5,11 @@ mod step;
 ghost use mathlib.Core.Path.{_≡_};
 ghost use Rattle.annexg.specs.Read.{tableOf};
 ghost use Rattle.annexg.specs.Sync.{syncTable};
-ghost use Rattle.channel.specs.Levels.{levelTable};
+ghost use Rattle.levels.specs.Levels.{levelTable};
 ghost use Rattle.frames.specs.Inner.{Begins, Framed};
-use channel::Run;
 use end::change;
 use laying::Side;
+use levels::Run;
 use step::fill;
 use step::lower;
 

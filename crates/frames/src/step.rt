@@ -8,14 +8,14 @@ ghost use lib.ListN.{length, take, drop};
 ghost use Rattle.annexg.specs.Read.{tableOf};
 ghost use Rattle.annexg.specs.Sync.{syncTable};
 ghost use Rattle.channel.specs.Channel.{swaps};
-ghost use Rattle.channel.specs.Level.{magnitude};
-ghost use Rattle.channel.specs.Levels.{levelTable};
+ghost use Rattle.levels.specs.Level.{magnitude};
+ghost use Rattle.levels.specs.Levels.{levelTable};
 ghost use Rattle.streams.specs.Streams.{Two, swapPossible, step, steps, opened};
 ghost use Rattle.frames.specs.Inner.{Shows, planOf, Evened, Ready, Begins};
 use super::Pair;
 use super::Plan;
-use channel::Run;
 use laying::Side;
+use levels::Run;
 
 // ---- which stream is lower
 
@@ -23,7 +23,7 @@ use laying::Side;
 pub(crate) fn lower(a: u64, b: u64) -> bool
     ensures { λ r. ⌜ r ≡ leb (magnitude a) (magnitude b) ⌝ }
 {
-    channel::absolute(a) <= channel::absolute(b)
+    levels::absolute(a) <= levels::absolute(b)
 }
 
 fn pick_side(first: bool, a: Side, b: Side) -> Side
@@ -56,10 +56,10 @@ fn can_swap(m: &[u32; 1024], u: &[u32; 352], s: u8, l: u16, b: u8) -> bool
     if !swap_state(s) {
         return false;
     }
-    if !channel::joins(l, annexg::word_at(m, u, 0, b, 0)) {
+    if !runs::joins(l, annexg::word_at(m, u, 0, b, 0)) {
         return false;
     }
-    channel::joins(l, annexg::word_at(m, u, 0, b, 3))
+    runs::joins(l, annexg::word_at(m, u, 0, b, 3))
 }
 
 fn plan(s: u8, b: u8, swap: bool) -> Plan

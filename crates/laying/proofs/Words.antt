@@ -9,8 +9,8 @@ use lib.Dec.{leb, ltb}
 use Rattle.annexg.specs.Read.{entryOf, wordOf, nextOf}
 use Rattle.annexg.specs.Sync.{syncEnd, codeFor}
 use Rattle.channel.specs.Channel.{sync, byte, entryFor}
-use Rattle.channel.specs.Level.{runAfter}
-use Rattle.channel.specs.declared.Run.{Run}
+use Rattle.levels.specs.Level.{runAfter}
+use Rattle.levels.specs.declared.Run.{Run}
 use Rattle.laying.specs.Sides.{tableFor, columnFor, sideAfter}
 use Rattle.laying.specs.declared.Side.{Side}
 

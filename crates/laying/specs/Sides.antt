@@ -7,8 +7,8 @@ use lib.Dec.{leb, ltb}
 use lib.ListN.{length, set}
 use Rattle.annexg.specs.Read.{State}
 use Rattle.channel.specs.Channel.{Item, halvesFor, nextFor, lastFor}
-use Rattle.channel.specs.Level.{runAfter, Room}
-use Rattle.channel.specs.declared.Run.{Run}
+use Rattle.levels.specs.Level.{runAfter, Room}
+use Rattle.levels.specs.declared.Run.{Run}
 use Rattle.laying.specs.declared.Side.{Side}
 
 -- table and column of the entry that a choice takes for byte b in State s

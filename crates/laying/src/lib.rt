@@ -5,10 +5,10 @@ ghost use lib.ListN.{length};
 ghost use Rattle.annexg.specs.Read.{State, tableOf};
 ghost use Rattle.annexg.specs.Sync.{syncTable, syncEnd, codeFor};
 ghost use Rattle.channel.specs.Channel.{sync, byte, lastFor};
-ghost use Rattle.channel.specs.Level.{Room};
-ghost use Rattle.channel.specs.Levels.{levelTable};
+ghost use Rattle.levels.specs.Level.{Room};
+ghost use Rattle.levels.specs.Levels.{levelTable};
 ghost use Rattle.laying.specs.Sides.{tableFor, columnFor, putAt, sideAfter, Next};
-use channel::Run;
+use levels::Run;
 
 // The end of a stream: its running record and its last half word.
 pub struct Side {

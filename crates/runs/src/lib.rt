@@ -1,13 +1,26 @@
-// The runs of ZEROs of a stream: those that a block may have.
+// Runs of ZEROs: across the join of two half words, and those of a whole stream.
 ghost use mathlib.Core.Path.{_≡_};
 ghost use mathlib.Core.Bool.{_&&_};
 ghost use Prim.Native.Nat.{_+_, _*_, _-_, _<_, _≤_};
 ghost use lib.Dec.{leb};
 ghost use lib.ListN.{length};
 ghost use Rattle.lists.specs.Count.{bit};
+ghost use Rattle.annexg.specs.Runs.{inside};
 ghost use Rattle.channel.specs.Bits.{blockRunFits, runsHold};
 ghost use Rattle.channel.specs.Block.{bitAt};
+ghost use Rattle.channel.specs.Channel.{joinRun};
 ghost use Rattle.runs.specs.Inner.{Scanned};
+
+// The run across the join of two half words is 2 to 10.
+pub fn joins(l: u16, h: u16) -> bool
+    ensures { λ r. ⌜ r ≡ inside 2 10 (joinRun l h) ⌝ }
+{
+    let n = u16::trailing_zeros(l) + u16::leading_zeros(h);
+    if n < 2 {
+        return false;
+    }
+    n <= 10
+}
 
 // The search for a run that a block may not have: whether a ONE was seen, the ZEROs since the last, and whether all runs so far may stand.
 struct Scan {

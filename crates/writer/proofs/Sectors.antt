@@ -15,8 +15,8 @@ use Rattle.lists.proofs.Bytes.{take-bytes}
 use Rattle.annexg.specs.Read.{State}
 use Rattle.channel.specs.Block.{frameCodes, codeOf, frames, packed}
 use Rattle.channel.specs.Channel.{Item, allProper}
-use Rattle.channel.specs.Level.{Room}
-use Rattle.channel.specs.declared.Run.{Run}
+use Rattle.levels.specs.Level.{Room}
+use Rattle.levels.specs.declared.Run.{Run}
 use Rattle.channel.proofs.Joined.{packed-append}
 use Rattle.channel.proofs.Places.{code-proper, frames-proper}
 use Rattle.streams.specs.Frames.{joined, framesOf, sectorOf}

@@ -5,8 +5,8 @@ use mathlib.Core.List.{List, _++_}
 use Prim.Native.Nat.{ℕ, _+_}
 use lib.ListN.{length, take}
 use Rattle.annexg.specs.Read.{State}
-use Rattle.channel.specs.Level.{Room}
-use Rattle.channel.specs.declared.Run.{Run}
+use Rattle.levels.specs.Level.{Room}
+use Rattle.levels.specs.declared.Run.{Run}
 
 -- a sector may begin
 pub record SectorBegins (r : Run) (bs out : List ℕ) : Type 0 where

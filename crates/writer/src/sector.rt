@@ -6,12 +6,12 @@ ghost use lib.ListN.{length, take};
 ghost use Rattle.annexg.specs.Read.{tableOf};
 ghost use Rattle.annexg.specs.Sync.{syncTable};
 ghost use Rattle.channel.specs.Block.{codeOf, frameCodes};
-ghost use Rattle.channel.specs.Level.{Room};
-ghost use Rattle.channel.specs.Levels.{levelTable};
+ghost use Rattle.levels.specs.Level.{Room};
+ghost use Rattle.levels.specs.Levels.{levelTable};
 ghost use Rattle.streams.specs.Frames.{sectorOf, closingOf};
 ghost use Rattle.frames.specs.Inner.{Whole};
 ghost use Rattle.writer.specs.Inner.{SectorBegins, Pasted};
-use channel::Run;
+use levels::Run;
 
 // The part of the buffer whose stream is shown: Stream 1's where it is the lower.
 fn select<'a>(s1: &'a [u8], s2: &'a [u8], first: bool) -> &'a [u8]
@@ -117,7 +117,7 @@ pub(crate) fn sector(r: Run, bytes: &[u8], out: &mut [u8]) -> Run
     let m = annexg::main_table();
     let u = annexg::sub_table();
     let y = annexg::sync_table();
-    let v = channel::level_table();
+    let v = levels::level_table();
     let mut s1 = [0u8; 186];
     let mut s2 = [0u8; 186];
     frames(&m, &u, &y, &v, r, bytes, &mut s1, &mut s2, &mut *out)
@@ -129,7 +129,7 @@ pub(crate) fn closing(r: Run, out: &mut [u8]) -> Run
     ensures { λ q. ⌜ Whole q (now (out .exit)) (closingOf r) ⌝ }
 {
     let y = annexg::sync_table();
-    let v = channel::level_table();
+    let v = levels::level_table();
     let d = laying::lay_sync(&y, &v, r, 0, false, &mut *out);
     d.run
 }

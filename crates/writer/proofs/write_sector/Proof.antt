@@ -1,6 +1,6 @@
 use mathlib.Core.Path.{sym, ap, subst, _∙_}
 use native.Mathlib.Omega.{arith}
-use Rattle.channel.specs.declared.Run.{Run}
+use Rattle.levels.specs.declared.Run.{Run}
 use Rattle.streams.specs.Frames.{sectorOf}
 use Rattle.frames.specs.Inner.{Whole}
 use Rattle.writer.specs.Inner.{SectorBegins}

@@ -2,7 +2,7 @@
 -- Assumes nothing.
 use Prim.Native.Nat.{_≤_, _+_, _*_, _-_}
 use native.Mathlib.Omega.{arith}
-use Rattle.channel.specs.Level.{Room}
+use Rattle.levels.specs.Level.{Room}
 use Rattle.frames.proofs.Ended.{Recounted, recount-none, recount-more, recount-all, room-le, room-next}
 use mathlib.Core.Path.{refl}
 use Rattle.frames.proofs.end.recount.Statement.{statement}

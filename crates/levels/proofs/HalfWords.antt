@@ -7,11 +7,12 @@ use native.Mathlib.Omega.{arith}
 use lib.ListN.{length, getD}
 use Rattle.lists.proofs.Fill.{getD-tabulate}
 use Rattle.annexg.specs.Runs.{bitsOf}
 use Rattle.channel.specs.Bits.{bitsAll}
-use Rattle.channel.specs.Level.{flipped, levelAfter, dsvAfter, runAfter}
-use Rattle.channel.specs.Levels.{atOne, byteLevels, levelTable}
-use Rattle.channel.specs.declared.Run.{Run}
-use Rattle.channel.proofs.Steps.{same-run, level-small, level-append, flipped-small}
+use Rattle.channel.proofs.BlockRuns.{half-bits}
+use Rattle.levels.specs.Level.{flipped, levelAfter, dsvAfter, runAfter}
+use Rattle.levels.specs.Levels.{atOne, byteLevels, levelTable}
+use Rattle.levels.specs.declared.Run.{Run}
+use Rattle.levels.proofs.Steps.{same-run, level-small, level-append, flipped-small}
 
 -- a bit at level ONE moves the DSV by 1, any other by -1
 dsv-one : (l d : ℕ) (bs : List ℕ) → l < 2 → length bs ≤ d → dsvAfter l d bs + length bs ≡ d + 2 * atOne l bs
@@ -88,13 +89,6 @@ unfolding byteLevels
 byte-ones l x h = omega (arith, level-small l (bitsOf 8 x) h)
 
 -- ---- a half word
-
-cell : {x y : ℕ} {xs ys : List ℕ} → x ≡ y → xs ≡ ys → x ∷ xs ≡ y ∷ ys
-cell p q = cc
-
--- the bits of a half are those of its two bytes
-pub half-bits : (h : ℕ) → bitsOf 16 h ≡ bitsOf 8 (h / 256) ++ bitsOf 8 (h % 256)
-half-bits h = cell (omega arith) (cell (omega arith) (cell (omega arith) (cell (omega arith) (cell (omega arith) (cell (omega arith) (cell (omega arith) (cell (omega arith) (cell (omega arith) (cell (omega arith) (cell (omega arith) (cell (omega arith) (cell (omega arith) (cell (omega arith) (cell (omega arith) (cell (omega arith) (refl))))))))))))))))
 
 one-half : (w : ℕ) → bitsAll (w ∷ []) ≡ bitsOf 8 (w / 256) ++ bitsOf 8 (w % 256)
 unfolding bitsAll

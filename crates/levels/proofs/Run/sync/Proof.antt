@@ -1,14 +1,14 @@
--- `channel::Run::sync` meets its contract. Two half words one after the other are one list of two.
+-- `levels::Run::sync` meets its contract. Two half words one after the other are one list of two.
 -- Assumes nothing.
 use mathlib.Core.Path.{ap, subst, sym, _∙_}
 use mathlib.Core.List.{[], _∷_}
 use Rattle.annexg.specs.Sync.{syncEnd}
-use Rattle.channel.specs.Level.{Room, runAfter}
-use Rattle.channel.specs.declared.Run.{Run}
-use Rattle.channel.proofs.Steps.{run-append, room-after}
+use Rattle.levels.specs.Level.{Room, runAfter}
+use Rattle.levels.specs.declared.Run.{Run}
+use Rattle.levels.proofs.Steps.{run-append, room-after}
 use borrow.Author.Needs.{needs}
-use Rattle.channel.proofs.Run.sync.Statement.{statement}
-use Rattle.channel.proofs.Run.sync.Tie as tie
+use Rattle.levels.proofs.Run.sync.Statement.{statement}
+use Rattle.levels.proofs.Run.sync.Tie as tie
 
 half-requires : tie.Need-half-requires
 half-requires c κs = search needs

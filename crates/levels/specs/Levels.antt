@@ -5,7 +5,7 @@ use mathlib.Core.List.{List, [], _∷_}
 use Prim.Native.Nat.{ℕ, _+_, _*_}
 use Rattle.lists.specs.Fill.{tabulate}
 use Rattle.annexg.specs.Runs.{bitsOf}
-use Rattle.channel.specs.Level.{flipped, levelAfter}
+use Rattle.levels.specs.Level.{flipped, levelAfter}
 
 -- how many of these bits are at level ONE, from level l
 unfoldable pub atOne : ℕ → List ℕ → ℕ

@@ -1,10 +1,10 @@
--- `channel::joins` meets its contract.
+-- `runs::joins` meets its contract.
 -- Assumes nothing.
 use native.Mathlib.Omega.{arith}
 use lib.Count.{leading-le, trailing-le}
-use Rattle.channel.proofs.Zeros.{join-run, inside-low, inside-high}
-use Rattle.channel.proofs.joins.Statement.{statement}
-use Rattle.channel.proofs.joins.Tie as tie
+use Rattle.runs.proofs.Zeros.{join-run, inside-low, inside-high}
+use Rattle.runs.proofs.joins.Statement.{statement}
+use Rattle.runs.proofs.joins.Tie as tie
 
 add-n : tie.Need-add-n
 add-n c = record { fits = omega (arith, trailing-le 16 (c .args .l), leading-le 16 (c .args .h)) }

@@ -8,10 +8,10 @@ use Rattle.annexg.specs.Read.{tableOf, wordOf, nextOf}
 use Rattle.annexg.specs.Runs.{trail}
 use Rattle.annexg.specs.Sync.{syncTable, syncEnd}
 use Rattle.annexg.specs.Tables.{mainTable}
 use Rattle.channel.specs.Bits.{bitsAll}
 use Rattle.channel.specs.Channel.{Item, sync, byte, entryFor, halvesFor, nextFor, joinRun, permitted}
-use Rattle.channel.specs.Level.{zeroAt, levelAfter, dsvAfter, runAfter}
-use Rattle.channel.specs.declared.Run.{Run}
+use Rattle.levels.specs.Level.{zeroAt, levelAfter, dsvAfter, runAfter}
+use Rattle.levels.specs.declared.Run.{Run}
 
 -- the running record in State s at level l, DSV 0, and the record after an item by a choice
 abbrev start : ℕ → ℕ → Run

@@ -1,9 +1,9 @@
--- `channel::Run::word` meets its contract.
+-- `levels::Run::word` meets its contract.
 -- Assumes nothing.
-use Rattle.channel.proofs.Steps.{other-state}
+use Rattle.levels.proofs.Steps.{other-state}
 use borrow.Author.Needs.{needs}
-use Rattle.channel.proofs.Run.word.Statement.{statement}
-use Rattle.channel.proofs.Run.word.Tie as tie
+use Rattle.levels.proofs.Run.word.Statement.{statement}
+use Rattle.levels.proofs.Run.word.Tie as tie
 
 half-requires : tie.Need-half-requires
 half-requires c κs = search needs

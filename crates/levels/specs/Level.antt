@@ -2,8 +2,8 @@
 -- Assumes nothing.
 use mathlib.Core.List.{List, [], _∷_}
 use Prim.Native.Nat.{ℕ, zero, suc, _+_, _*_, _-_, _<_, _≤_}
 use Rattle.channel.specs.Bits.{bitsAll}
-use Rattle.channel.specs.declared.Run.{Run}
+use Rattle.levels.specs.declared.Run.{Run}
 
 -- the DSV is held as an unsigned number, with 0 at 2^40
 abbrev pub zeroAt : ℕ

@@ -1,9 +1,9 @@
--- `channel::Run::half` meets its contract.
+-- `levels::Run::half` meets its contract.
 -- Assumes nothing.
-use Rattle.channel.proofs.HalfWords.{half-by-bytes}
+use Rattle.levels.proofs.HalfWords.{half-by-bytes}
 use borrow.Author.Needs.{needs}
-use Rattle.channel.proofs.Run.half.Statement.{statement}
-use Rattle.channel.proofs.Run.half.Tie as tie
+use Rattle.levels.proofs.Run.half.Statement.{statement}
+use Rattle.levels.proofs.Run.half.Tie as tie
 
 cast-levels-of : tie.Need-cast-levels-of
 cast-levels-of c = search needs

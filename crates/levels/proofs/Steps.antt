@@ -6,9 +6,9 @@ use Prim.Native.Nat.{ℕ, zero, suc, _+_, _*_, _-_, _/_, _%_, _^_, _<_, _≤_}
 use native.Mathlib.Omega.{arith}
 use lib.ListN.{length, length-append}
 use Rattle.annexg.specs.Runs.{bitsOf}
 use Rattle.channel.specs.Bits.{bitsAll}
-use Rattle.channel.specs.Level.{flipped, levelAfter, dsvAfter, runAfter, Room}
-use Rattle.channel.specs.declared.Run.{Run}
+use Rattle.levels.specs.Level.{flipped, levelAfter, dsvAfter, runAfter, Room}
+use Rattle.levels.specs.declared.Run.{Run}
 
 pub same-run : {a b : Run} → a .state ≡ b .state → a .level ≡ b .level → a .dsv ≡ b .dsv → a ≡ b
 same-run p q r = λ i. record { state = p i; level = q i; dsv = r i }

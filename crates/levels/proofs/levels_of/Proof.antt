@@ -1,10 +1,10 @@
--- `channel::levels_of` meets its contract.
+-- `levels::levels_of` meets its contract.
 -- Assumes nothing.
 use native.Mathlib.Omega.{arith}
-use Rattle.channel.proofs.HalfWords.{entry-most, from-zero, from-one}
+use Rattle.levels.proofs.HalfWords.{entry-most, from-zero, from-one}
 use borrow.Author.Needs.{needs}
-use Rattle.channel.proofs.levels_of.Statement.{statement}
-use Rattle.channel.proofs.levels_of.Tie as tie
+use Rattle.levels.proofs.levels_of.Statement.{statement}
+use Rattle.levels.proofs.levels_of.Tie as tie
 
 element-copy-out-e : tie.Need-element-copy-out-e
 element-copy-out-e c = search needs
