@@ -10,7 +10,7 @@ use Rattle.annexg.specs.Sync.{syncEnd, codeFor}
 use Rattle.channel.specs.Block.{packed}
 use Rattle.channel.specs.Channel.{sync, byte, lastFor}
 use Rattle.levels.specs.declared.Run.{Run}
-use Rattle.streams.specs.Streams.{Stream, fresh, lay}
+use Rattle.streams.specs.Streams.{fresh, lay}
 use Rattle.laying.specs.Sides.{putAt, sideAfter}
 use Rattle.laying.specs.declared.Side.{Side}
 use Rattle.frames.specs.Inner.{Part, Worded}

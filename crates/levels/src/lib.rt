@@ -2,7 +2,7 @@
 mod table;
 
 ghost use mathlib.Core.Path.{_≡_};
-ghost use mathlib.Core.List.{List, [], _∷_};
+ghost use mathlib.Core.List.{[], _∷_};
 ghost use Prim.Native.Nat.{_<_, _≤_};
 ghost use Rattle.annexg.specs.Sync.{syncEnd};
 ghost use Rattle.levels.specs.Level.{magnitude, runAfter, Room};
@@ -23,11 +23,11 @@ pub fn level_table() -> [u8; 256]
 }
 
 // Byte x from a level: twice its bits at level ONE, and the level after it. From level ONE each bit is at the other level than from level ZERO.
-fn levels_of(d: &[u8; 256], level: u8, x: u8) -> u8
-    requires { ⌜ (now d ≡ levelTable) × (level < 2) ⌝ }
+fn levels_of(v: &[u8; 256], level: u8, x: u8) -> u8
+    requires { ⌜ (now v ≡ levelTable) × (level < 2) ⌝ }
     ensures { λ r. ⌜ (r ≡ byteLevels level x) × (r ≤ 17) ⌝ }
 {
-    let e = d[x as usize];
+    let e = v[x as usize];
     if level == 0 {
         return e;
     }
@@ -36,12 +36,12 @@ fn levels_of(d: &[u8; 256], level: u8, x: u8) -> u8
 
 impl Run {
     // The step over a half word, first bit highest; the State stays. Of 16 bits those at level ONE count 1 and the others -1.
-    pub fn half(self, d: &[u8; 256], w: u16) -> Run
-        requires { ⌜ (now d ≡ levelTable) × Room self 16 ⌝ }
+    pub fn half(self, v: &[u8; 256], w: u16) -> Run
+        requires { ⌜ (now v ≡ levelTable) × Room self 16 ⌝ }
         ensures { λ r. ⌜ r ≡ runAfter self (self .state) (w ∷ []) ⌝ }
     {
-        let a = levels_of(d, self.level, (w / 256) as u8);
-        let b = levels_of(d, a % 2, (w % 256) as u8);
+        let a = levels_of(v, self.level, (w / 256) as u8);
+        let b = levels_of(v, a % 2, (w % 256) as u8);
         Run {
             state: self.state,
             level: b % 2,
@@ -50,11 +50,11 @@ impl Run {
     }
 
     // The step over a Code Word, with the next State that the table gives with it.
-    pub fn word(self, d: &[u8; 256], w: u16, next: u8) -> Run
-        requires { ⌜ (now d ≡ levelTable) × Room self 16 ⌝ }
+    pub fn word(self, v: &[u8; 256], w: u16, next: u8) -> Run
+        requires { ⌜ (now v ≡ levelTable) × Room self 16 ⌝ }
         ensures { λ r. ⌜ r ≡ runAfter self next (w ∷ []) ⌝ }
     {
-        let r = self.half(d, w);
+        let r = self.half(v, w);
         Run {
             state: next,
             level: r.level,
@@ -63,11 +63,11 @@ impl Run {
     }
 
     // The step over a SYNC Code, by its first half word. After it the State is 1.
-    pub fn sync(self, d: &[u8; 256], first: u16) -> Run
-        requires { ⌜ (now d ≡ levelTable) × Room self 32 ⌝ }
+    pub fn sync(self, v: &[u8; 256], first: u16) -> Run
+        requires { ⌜ (now v ≡ levelTable) × Room self 32 ⌝ }
         ensures { λ r. ⌜ r ≡ runAfter self 1 (first ∷ syncEnd ∷ []) ⌝ }
     {
-        self.half(d, first).word(d, 0x0011, 1)
+        self.half(v, first).word(v, 0x0011, 1)
     }
 }
 

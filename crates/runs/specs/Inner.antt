@@ -1,4 +1,4 @@
--- What functions give that are not called from outside. No theorem cites it.
+-- What one step of the scan gives: vocabulary of inner contracts. No theorem cites it.
 -- Assumes nothing.
 use mathlib.Core.Path.{_≡_}
 use mathlib.Core.Bool.{_&&_}

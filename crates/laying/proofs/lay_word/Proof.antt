@@ -1,7 +1,6 @@
 -- `laying::lay_word` meets its contract.
 -- Assumes nothing.
 use mathlib.Core.Path.{ap, _∙_}
-use Prim.Native.Nat.{ℕ}
 use Rattle.laying.specs.Sides.{putAt}
 use Rattle.laying.proofs.Words.{word-is, word-side}
 use borrow.Author.Needs.{needs}

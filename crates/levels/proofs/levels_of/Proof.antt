@@ -12,15 +12,15 @@ element-copy-out-e c = search needs
 returns : tie.Need-returns
 returns c =
     let s = c .before .before in
-    (from-zero (s .args .d .now) (s .args .level) (s .args .x) (s .pre .0) (omega arith) (c .if1 .taken), entry-most (s .args .d .now) (s .args .x) (s .pre .0) (omega arith))
+    (from-zero (s .args .v .now) (s .args .level) (s .args .x) (s .pre .0) (omega arith) (c .if1 .taken), entry-most (s .args .v .now) (s .args .x) (s .pre .0) (omega arith))
 
 sub-result : tie.Need-sub-result
-sub-result c = let s = c .before .before in entry-most (s .args .d .now) (s .args .x) (s .pre .0) (omega arith)
+sub-result c = let s = c .before .before in entry-most (s .args .v .now) (s .args .x) (s .pre .0) (omega arith)
 
 returns-2 : tie.Need-returns-2
 returns-2 c =
     let s = c .before .before in
-    (from-one (s .args .d .now) (s .args .level) (s .args .x) (s .pre .0) (omega arith) (omega (arith, c .if1 .left, s .pre .1)), omega arith)
+    (from-one (s .args .v .now) (s .args .level) (s .args .x) (s .pre .0) (omega arith) (omega (arith, c .if1 .left, s .pre .1)), omega arith)
 
 pub levels-of-spec : {M : Type 1} → statement M
 levels-of-spec = tie.close (tie.spec element-copy-out-e returns sub-result returns-2)
