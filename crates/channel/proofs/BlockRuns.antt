@@ -65,7 +65,7 @@ cell : {x y : ℕ} {xs ys : List ℕ} → x ≡ y → xs ≡ ys → x ∷ xs ≡
 cell p q = cc
 
 -- the bits of a half are those of its two bytes
-half-bits : (h : ℕ) → bitsOf 16 h ≡ bitsOf 8 (h / 256) ++ bitsOf 8 (h % 256)
+pub half-bits : (h : ℕ) → bitsOf 16 h ≡ bitsOf 8 (h / 256) ++ bitsOf 8 (h % 256)
 half-bits h = cell (omega arith) (cell (omega arith) (cell (omega arith) (cell (omega arith) (cell (omega arith) (cell (omega arith) (cell (omega arith) (cell (omega arith) (cell (omega arith) (cell (omega arith) (cell (omega arith) (cell (omega arith) (cell (omega arith) (cell (omega arith) (cell (omega arith) (cell (omega arith) (refl))))))))))))))))
 
 pub packed-bits : (hs : List ℕ) → bitsAll hs ≡ bitsBytes (packed hs)

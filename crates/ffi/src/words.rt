@@ -32,5 +32,5 @@ pub extern "C" fn chamanzil_read_word(word: u16, following: u16) -> u32
 pub extern "C" fn chamanzil_runs_hold(stream: &[u8]) -> u32
     ensures { λ r. ⌜ r ≡ bit (leb (length (now (stream .entry))) 77380 && runsHold (now (stream .entry))) ⌝ }
 {
-    channel::runs_ok(stream) as u32
+    runs::runs_ok(stream) as u32
 }

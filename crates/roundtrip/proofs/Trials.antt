@@ -1,7 +1,7 @@
 -- The starred trials of document 01's table, 1 to 12, as one proved list about the definitions.
 -- Assumes nothing.
 use Rattle.eccblock.proofs.Trials.{BlockTrials, block-trials}
-use Rattle.channel.proofs.Trials.{Trials6to12, trials}
+use Rattle.levels.proofs.Trials.{Trials6to12, trials}
 
 pub record StarredTrials : Type 0 where
   -- 1 to 3: IED; 4: EDC; 5: scrambling bytes

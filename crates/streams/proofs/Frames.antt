@@ -11,7 +11,7 @@ use lib.ListN.{getD, take, drop}
 use lib.Seq.{take-take, drop-drop, take-nil}
 use Rattle.channel.specs.Block.{frameCodes, codeOf, frames, sectorItems, blockItems, closed, packed, permittedChoices, permittedStream}
 use Rattle.channel.specs.Channel.{Item, sync, byte, permitted, stream}
-use Rattle.channel.specs.declared.Run.{Run}
+use Rattle.levels.specs.declared.Run.{Run}
 use Rattle.streams.specs.Frames.{joined, framesOf, sectorOf, sectorsOf, closingOf, blockOf, choicesOf}
 use Rattle.streams.specs.Streams.{Stream, fresh, lay, frameItems, frameOf}
 use Rattle.streams.proofs.Laid.{Laid, laidBy, extended, laid-fresh, laid-lay, laid-join, frame-laid}

@@ -12,10 +12,10 @@ use Rattle.annexg.specs.Read.{entryOf}
 use Rattle.annexg.specs.Runs.{inside}
 use Rattle.channel.specs.Bits.{bitsAll}
 use Rattle.channel.specs.Channel.{Item, sync, byte, nextFor, lastFor, joinRun, swaps, allowed, permitted, stream, stateAfter, lastAfter}
-use Rattle.channel.specs.Level.{levelAfter, dsvAfter, runAfter}
-use Rattle.channel.specs.declared.Run.{Run}
+use Rattle.levels.specs.Level.{levelAfter, dsvAfter, runAfter}
+use Rattle.levels.specs.declared.Run.{Run}
 use Rattle.channel.proofs.Joined.{stream-append, permitted-append}
-use Rattle.channel.proofs.Steps.{run-append}
+use Rattle.levels.proofs.Steps.{run-append}
 use Rattle.streams.specs.Frames.{joined}
 use Rattle.streams.specs.Streams.{Stream, fresh, lay, layAll, Two, oneLower, lower, opened, swapPossible, swapIn, swapMade, copied, kept, step, steps, frameItems, otherFirst, otherCode, changes, ended, frameOf}
 

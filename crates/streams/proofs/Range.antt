@@ -13,11 +13,11 @@ use Rattle.annexg.specs.Read.{State}
 use Rattle.channel.specs.Bits.{bitsAll}
 use Rattle.channel.specs.Block.{frames}
 use Rattle.channel.specs.Channel.{Item, sync, byte, nextFor, stream, allProper}
-use Rattle.channel.specs.Level.{Room}
-use Rattle.channel.specs.declared.Run.{Run}
+use Rattle.levels.specs.Level.{Room}
+use Rattle.levels.specs.declared.Run.{Run}
 use Rattle.channel.proofs.Joined.{state-after}
 use Rattle.channel.proofs.Places.{frames-proper}
-use Rattle.channel.proofs.Steps.{level-small, dsv-near, bits-length}
+use Rattle.levels.proofs.Steps.{level-small, dsv-near, bits-length}
 use Rattle.streams.specs.Frames.{sectorOf, closingOf}
 use Rattle.streams.specs.Streams.{Stream, lay}
 use Rattle.streams.proofs.Frames.{sector-laid, closing-laid}

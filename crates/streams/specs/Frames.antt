@@ -6,7 +6,7 @@ use Prim.Native.Nat.{ℕ, zero, suc, _*_}
 use lib.ListN.{take, drop}
 use Rattle.channel.specs.Block.{codeOf}
 use Rattle.channel.specs.Channel.{sync}
-use Rattle.channel.specs.declared.Run.{Run}
+use Rattle.levels.specs.declared.Run.{Run}
 use Rattle.streams.specs.Streams.{Stream, fresh, lay, frameOf}
 
 -- a stream after another

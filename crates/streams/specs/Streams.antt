@@ -8,8 +8,8 @@ use lib.Dec.{eqb, leb, ltb}
 use Rattle.annexg.specs.Read.{wordOf}
 use Rattle.annexg.specs.Runs.{inside}
 use Rattle.channel.specs.Channel.{Item, sync, byte, halvesFor, nextFor, lastFor, joinRun, swaps}
-use Rattle.channel.specs.Level.{zeroAt, magnitude, runAfter}
-use Rattle.channel.specs.declared.Run.{Run}
+use Rattle.levels.specs.Level.{zeroAt, magnitude, runAfter}
+use Rattle.levels.specs.declared.Run.{Run}
 
 -- ---- one stream
 

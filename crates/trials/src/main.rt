@@ -280,7 +280,7 @@ fn block_stream(stream_path: &[u8], block_path: &[u8]) {
 }
 
 fn print_reading(stream: &[u8], bytes: &[u8], after: u16) {
-    if channel::runs_ok(stream) {
+    if runs::runs_ok(stream) {
         print(b": runs hold");
     } else {
         print(b": RUNS DO NOT HOLD");

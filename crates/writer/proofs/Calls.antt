@@ -14,7 +14,7 @@ use Rattle.lists.proofs.Bytes.{take-bytes, drop-bytes}
 use Rattle.lists.proofs.Test.{truth}
 use Rattle.annexg.specs.Read.{State}
 use Rattle.channel.specs.Block.{packed, permittedChoices, permittedStream}
-use Rattle.channel.specs.declared.Run.{Run}
+use Rattle.levels.specs.declared.Run.{Run}
 use Rattle.channel.proofs.Joined.{packed-append}
 use Rattle.streams.specs.Frames.{sectorOf, sectorsOf, closingOf, blockOf, choicesOf}
 use Rattle.streams.specs.Streams.{Stream}

@@ -1,8 +1,3 @@
-pub mod Buffers
-pub mod Words
-pub mod Choices
-pub mod End
-pub mod Filling
 pub mod Sectors
 pub mod Signed
 pub mod Sound

@@ -15,18 +15,19 @@ use Rattle.lists.proofs.Bytes.{take-bytes}
 use Rattle.annexg.specs.Read.{State}
 use Rattle.channel.specs.Block.{frameCodes, codeOf, frames, packed}
 use Rattle.channel.specs.Channel.{Item, allProper}
-use Rattle.channel.specs.Level.{Room}
-use Rattle.channel.specs.declared.Run.{Run}
+use Rattle.levels.specs.Level.{Room}
+use Rattle.levels.specs.declared.Run.{Run}
 use Rattle.channel.proofs.Joined.{packed-append}
 use Rattle.channel.proofs.Places.{code-proper, frames-proper}
 use Rattle.streams.specs.Frames.{joined, framesOf, sectorOf}
 use Rattle.streams.specs.Streams.{Stream, frameOf}
 use Rattle.streams.proofs.Frames.{frames-laid, frames-take}
 use Rattle.streams.proofs.Range.{laid-room, laid-state, width-frames}
-use Rattle.writer.specs.Inner.{Whole, Framed, SectorBegins, Pasted}
-use Rattle.writer.specs.declared.Shown.{Shown}
-use Rattle.writer.proofs.End.{room-le}
-use Rattle.writer.proofs.Filling.{shown}
+use Rattle.frames.specs.Inner.{Whole, Framed}
+use Rattle.writer.specs.Inner.{SectorBegins, Pasted}
+use Rattle.frames.specs.declared.Shown.{Shown}
+use Rattle.frames.proofs.Ended.{room-le}
+use Rattle.frames.proofs.Filling.{shown}
 
 -- ---- the code of a frame
 

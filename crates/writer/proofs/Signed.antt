@@ -10,7 +10,7 @@ use lib.IntN.{ℤ, pos, negsuc, _+ℤ_, natAbs}
 use lib.Signed.{ltZ, leZ}
 use mir.Syntax.{w64}
 use mir.Val.{SFits}
-use Rattle.channel.specs.Level.{zeroAt, magnitude}
+use Rattle.levels.specs.Level.{zeroAt, magnitude}
 use Rattle.writer.specs.Records.{offset, signed}
 
 -- ---- one way and back

@@ -15,12 +15,13 @@ use Rattle.lists.proofs.Test.{and-left, and-right, and-both}
 use Rattle.annexg.specs.Read.{State}
 use Rattle.annexg.specs.Runs.{inside}
 use Rattle.channel.specs.Block.{packed}
-use Rattle.channel.specs.Level.{zeroAt, Room}
-use Rattle.channel.specs.declared.Run.{Run}
+use Rattle.levels.specs.Level.{zeroAt, Room}
+use Rattle.levels.specs.declared.Run.{Run}
 use Rattle.streams.specs.Frames.{sectorOf, closingOf}
 use Rattle.streams.proofs.Range.{sector-near, closing-near}
 use Rattle.writer.specs.Answers.{sound, sectorRefusal, closingRefusal, sectorNext, sectorOut, closingNext, closingOut}
-use Rattle.writer.specs.Inner.{Whole, SectorBegins}
+use Rattle.frames.specs.Inner.{Whole}
+use Rattle.writer.specs.Inner.{SectorBegins}
 use Rattle.writer.specs.Records.{runOf, recordOf, afterSector, afterClosing}
 use Rattle.writer.specs.declared.Record.{Record}
 use Rattle.writer.proofs.Signed.{abs-offset}

@@ -1,104 +1,12 @@
--- The vocabulary of contracts of functions that are not called from outside. No law cites it.
+-- The vocabulary of inner contracts. No law cites it.
 -- Assumes nothing.
 use mathlib.Core.Path.{_≡_}
-use mathlib.Core.Bool.{Bool, false, cond, _&&_, _||_}
 use mathlib.Core.List.{List, _++_}
-use Prim.Native.Nat.{ℕ, _+_, _-_, _<_, _≤_}
-use lib.Dec.{eqb, leb, ltb}
+use Prim.Native.Nat.{ℕ, _+_}
 use lib.ListN.{length, take}
 use Rattle.annexg.specs.Read.{State}
-use Rattle.channel.specs.Block.{packed}
-use Rattle.channel.specs.Channel.{byte}
-use Rattle.channel.specs.Level.{Room}
-use Rattle.channel.specs.declared.Run.{Run}
-use Rattle.streams.proofs.Laid.{Laid}
-use Rattle.streams.specs.Streams.{Stream, lay, Two, oneLower, opened, steps, frameItems, ended, frameOf}
-use Rattle.writer.specs.declared.Pair.{Pair}
-use Rattle.writer.specs.declared.Plan.{Plan}
-use Rattle.writer.specs.declared.Shown.{Shown}
-use Rattle.writer.specs.declared.Side.{Side}
-
--- ---- one stream
-
--- table and column of the entry that a choice takes for byte b in State s
-abbrev pub tableFor : ℕ → Bool → ℕ
-tableFor b c = cond (c && ltb b 88) 1 0
-
-abbrev pub columnFor : ℕ → ℕ → Bool → ℕ
-columnFor s b c = cond (c && leb 88 b) (4 - s) (s - 1)
-
--- d is the end of the stream m, whose bytes are the first n of the buffer x
-pub record Part (d : Side) (x : List ℕ) (n : ℕ) (m : Stream) : Type 0 where
-  pub run : d .run ≡ m .run
-  pub last : d .tail ≡ m .last
-  pub bytes : take n x ≡ packed (m .halves)
-
--- a word may be laid at the byte `at` of the buffer x
-pub record Next (d : Side) (at : ℕ) (x : List ℕ) : Type 0 where
-  pub state : State (d .run .state)
-  pub room : Room (d .run) 16
-  pub long : at + 1 < length x
-
--- byte b was laid there by the choice c: the buffer x became y
-pub record Worded (d : Side) (b : ℕ) (c : Bool) (at : ℕ) (x y : List ℕ) (q : Side) : Type 0 where
-  pub grown : (m : Stream) → Part d x at m → Part q y (at + 2) (lay m (byte b) c)
-  pub before : take at y ≡ take at x
-
--- ---- two streams
-
--- a pair is the ends of two streams; their buffers agree in the bytes that it counts as shared
-pub record Shows (p : Pair) (x y : List ℕ) (n : ℕ) (t : Two) : Type 0 where
-  pub one : Part (p .one) x n (t .one)
-  pub two : Part (p .two) y n (t .two)
-  pub agree : take (p .shared) x ≡ take (p .shared) y
-  pub early : p .shared ≤ n
-
--- whether byte b copies the lower stream over the other, and the choices in Streams 1 and 2, where the lower has State s and w says that a swap is made
-abbrev pub planOf : ℕ → ℕ → Bool → Plan
-planOf s b w = record { copy = ltb b 88 || w; one = cond (ltb b 88) false (w && eqb s 4); two = ltb b 88 || (w && eqb s 1) }
-
--- buffers x and y became v and w, which agree in the first n bytes: where a byte copies, both begin with the lower's first e bytes
-pub record Evened (copy first : Bool) (x y : List ℕ) (e : ℕ) (v w : List ℕ) (n : ℕ) : Type 0 where
-  pub one-front : take e v ≡ take e (cond copy (cond first x y) x)
-  pub two-front : take e w ≡ take e (cond copy (cond first x y) y)
-  pub agree : take n v ≡ take n w
-  pub early : n ≤ e
-
--- the step over a byte may be made at the byte `at` of both buffers
-pub record Ready (p : Pair) (at : ℕ) (x y : List ℕ) : Type 0 where
-  pub one : Next (p .one) at x
-  pub two : Next (p .two) at y
-  pub early : p .shared ≤ at
-  pub agree : take (p .shared) x ≡ take (p .shared) y
-
--- ---- a frame
-
--- a frame may begin
-pub record Begins (r : Run) (n : ℕ) (bs x y : List ℕ) : Type 0 where
-  pub state : State (r .state)
-  pub code : n < 8
-  pub room : Room r 1488
-  pub bytes : length bs ≡ 91
-  pub one : length x ≡ 186
-  pub two : length y ≡ 186
-
--- r and the buffer x are the whole of a stream
-pub record Whole (r : Run) (x : List ℕ) (m : Stream) : Type 0 where
-  pub run : r ≡ m .run
-  pub bytes : x ≡ packed (m .halves)
-
--- the frame's end: whatever stream over a frame of SYn the buffer x held, y holds it as the rule ends it
-pub record Closes (r : Run) (n : ℕ) (low : Run) (x y : List ℕ) (q : Run) : Type 0 where
-  pub so : (bs : List ℕ) (m : Stream) → Laid r (frameItems n bs) m → Whole low x m → Whole q y (ended r n bs m)
-
--- a frame was written: the lower stream is shown, with its SYNC Code changed where that is better; the other buffer keeps its own stream
-pub record Framed (r : Run) (n : ℕ) (bs x y : List ℕ) (q : Shown) : Type 0 where
-  pub first : q .first ≡ oneLower (steps (opened r n) bs)
-  pub run : q .run ≡ frameOf r n bs .run
-  pub one : x ≡ packed (cond (q .first) (frameOf r n bs) (steps (opened r n) bs .one) .halves)
-  pub two : y ≡ packed (cond (q .first) (steps (opened r n) bs .two) (frameOf r n bs) .halves)
-
--- ---- a sector
+use Rattle.levels.specs.Level.{Room}
+use Rattle.levels.specs.declared.Run.{Run}
 
 -- a sector may begin
 pub record SectorBegins (r : Run) (bs out : List ℕ) : Type 0 where

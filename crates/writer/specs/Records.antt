@@ -4,8 +4,8 @@ use mathlib.Core.Bool.{Bool, true, false}
 use mathlib.Core.List.{List}
 use Prim.Native.Nat.{ℕ, suc, _+_, _-_}
 use lib.IntN.{ℤ, pos, negsuc, _-ℤ_}
-use Rattle.channel.specs.Level.{zeroAt}
-use Rattle.channel.specs.declared.Run.{Run}
+use Rattle.levels.specs.Level.{zeroAt}
+use Rattle.levels.specs.declared.Run.{Run}
 use Rattle.streams.specs.Frames.{sectorOf, closingOf}
 use Rattle.writer.specs.declared.Record.{Record}
 

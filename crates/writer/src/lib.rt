@@ -1,6 +1,4 @@
 // The writer: sectors and the closing code by the two-stream rule of clause 22, from a record that goes in and comes back by value.
-mod frame;
-mod laying;
 mod refusal;
 mod sector;
 
@@ -8,7 +6,6 @@ ghost use mathlib.Core.Path.{_≡_};
 ghost use lib.ListN.{length};
 ghost use Rattle.writer.specs.Records.{start};
 ghost use Rattle.writer.specs.Answers.{number, sectorRefusal, sectorNext, sectorOut, closingRefusal, closingNext, closingOut};
-use channel::Run;
 
 // The writer's record: the State prescribed next, the NRZI level, the DSV, the sectors written, and whether the closing code is written.
 pub struct Record {
@@ -32,32 +29,6 @@ pub enum Answer {
 pub struct Step {
     pub next: Record,
     pub answer: Answer,
-}
-
-// The end of one of the two streams: its running record and its last half word.
-pub(crate) struct Side {
-    pub(crate) run: Run,
-    pub(crate) tail: u16,
-}
-
-// Streams 1 and 2, and how many bytes of the two buffers are known to agree: a copy leaves those out.
-pub(crate) struct Pair {
-    pub(crate) one: Side,
-    pub(crate) two: Side,
-    pub(crate) shared: usize,
-}
-
-// What a byte does: whether the lower stream is copied over the other, and the choices in Streams 1 and 2.
-pub(crate) struct Plan {
-    pub(crate) copy: bool,
-    pub(crate) one: bool,
-    pub(crate) two: bool,
-}
-
-// The running record after a frame, and whether Stream 1 is shown.
-pub(crate) struct Shown {
-    pub(crate) run: Run,
-    pub(crate) first: bool,
 }
 
 // The record before the first sector.

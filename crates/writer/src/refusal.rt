@@ -9,8 +9,7 @@ ghost use Rattle.writer.specs.Records.{offset, signed, runOf, recordOf};
 ghost use Rattle.writer.specs.Answers.{number, sound, sectorRefusal, closingRefusal};
 use super::Answer;
 use super::Record;
-use super::frame::absolute;
-use channel::Run;
+use levels::Run;
 
 // The absolute value is at most 2^40.
 fn is_near(d: i64) -> bool
@@ -105,7 +104,7 @@ fn is_sound(w: Record) -> bool
     if !is_near(w.dsv) {
         return false;
     }
-    absolute(offset_of(w.dsv)) <= limit(w.sectors, w.closed)
+    levels::absolute(offset_of(w.dsv)) <= limit(w.sectors, w.closed)
 }
 
 // The refusal of a sector, by the lengths of its bytes and of its buffer.

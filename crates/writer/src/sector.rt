@@ -6,12 +6,12 @@ ghost use lib.ListN.{length, take};
 ghost use Rattle.annexg.specs.Read.{tableOf};
 ghost use Rattle.annexg.specs.Sync.{syncTable};
 ghost use Rattle.channel.specs.Block.{codeOf, frameCodes};
-ghost use Rattle.channel.specs.Level.{Room};
+ghost use Rattle.levels.specs.Level.{Room};
+ghost use Rattle.levels.specs.Levels.{levelTable};
 ghost use Rattle.streams.specs.Frames.{sectorOf, closingOf};
-ghost use Rattle.writer.specs.Inner.{Whole, SectorBegins, Pasted};
-use super::frame::frame;
-use super::laying::lay_sync;
-use channel::Run;
+ghost use Rattle.frames.specs.Inner.{Whole};
+ghost use Rattle.writer.specs.Inner.{SectorBegins, Pasted};
+use levels::Run;
 
 // The part of the buffer whose stream is shown: Stream 1's where it is the lower.
 fn select<'a>(s1: &'a [u8], s2: &'a [u8], first: bool) -> &'a [u8]
@@ -85,13 +85,14 @@ fn frames(
     m: &[u32; 1024],
     u: &[u32; 352],
     y: &[u16; 32],
+    v: &[u8; 256],
     r: Run,
     bytes: &[u8],
     s1: &mut [u8],
     s2: &mut [u8],
     out: &mut [u8],
 ) -> Run
-    requires { ⌜ (now m ≡ tableOf 0) × ((now u ≡ tableOf 1) × ((now y ≡ syncTable) × (SectorBegins r (now bytes) (now out) × ((length (now s1) ≡ 186) × (length (now s2) ≡ 186))))) ⌝ }
+    requires { ⌜ (now v ≡ levelTable) × ((now m ≡ tableOf 0) × ((now u ≡ tableOf 1) × ((now y ≡ syncTable) × (SectorBegins r (now bytes) (now out) × ((length (now s1) ≡ 186) × (length (now s2) ≡ 186)))))) ⌝ }
     ensures { λ q. ⌜ Whole q (now (out .exit)) (sectorOf r (now (bytes .entry))) ⌝ }
 {
     let codes = codes();
@@ -100,7 +101,7 @@ fn frames(
         let a = 91 * k;
         let e = a + 91;
         let n = code_of(&codes, k);
-        let q = frame(m, u, y, run, n, &bytes[a..e], &mut *s1, &mut *s2);
+        let q = frames::frame(m, u, y, v, run, n, &bytes[a..e], &mut *s1, &mut *s2);
         let part = select(&*s1, &*s2, q.first);
         paste(part, &mut *out, 186 * k);
         run = q.run;
@@ -116,9 +117,10 @@ pub(crate) fn sector(r: Run, bytes: &[u8], out: &mut [u8]) -> Run
     let m = annexg::main_table();
     let u = annexg::sub_table();
     let y = annexg::sync_table();
+    let v = levels::level_table();
     let mut s1 = [0u8; 186];
     let mut s2 = [0u8; 186];
-    frames(&m, &u, &y, r, bytes, &mut s1, &mut s2, &mut *out)
+    frames(&m, &u, &y, &v, r, bytes, &mut s1, &mut s2, &mut *out)
 }
 
 // The closing code from a running record.
@@ -127,6 +129,7 @@ pub(crate) fn closing(r: Run, out: &mut [u8]) -> Run
     ensures { λ q. ⌜ Whole q (now (out .exit)) (closingOf r) ⌝ }
 {
     let y = annexg::sync_table();
-    let d = lay_sync(&y, r, 0, false, &mut *out);
+    let v = levels::level_table();
+    let d = laying::lay_sync(&y, &v, r, 0, false, &mut *out);
     d.run
 }

@@ -1,11 +1,11 @@
 use mathlib.Core.Path.{sym, ap, subst, _∙_}
 use native.Mathlib.Omega.{arith}
-use Rattle.channel.specs.Level.{Room}
-use Rattle.channel.specs.declared.Run.{Run}
+use Rattle.levels.specs.Level.{Room}
+use Rattle.levels.specs.declared.Run.{Run}
 use Rattle.writer.proofs.Sound.{closing-opens, closing-refused, closing-done, closing-small, near, sound-room}
 use Rattle.writer.proofs.Told.{done, refused}
 use Rattle.streams.specs.Frames.{closingOf}
-use Rattle.writer.specs.Inner.{Whole}
+use Rattle.frames.specs.Inner.{Whole}
 use borrow.Author.Needs.{needs}
 use Rattle.writer.proofs.close.Statement.{statement}
 use Rattle.writer.proofs.close.Tie as tie

@@ -1,8 +1,9 @@
 use mathlib.Core.Path.{sym, ap, subst, _∙_}
 use native.Mathlib.Omega.{arith}
-use Rattle.channel.specs.declared.Run.{Run}
+use Rattle.levels.specs.declared.Run.{Run}
 use Rattle.streams.specs.Frames.{sectorOf}
-use Rattle.writer.specs.Inner.{Whole, SectorBegins}
+use Rattle.frames.specs.Inner.{Whole}
+use Rattle.writer.specs.Inner.{SectorBegins}
 use Rattle.writer.proofs.Sound.{sector-opens, sector-begins, sector-refused, sector-done, sector-small, near}
 use Rattle.writer.proofs.Told.{done, refused}
 use borrow.Author.Needs.{needs}

@@ -1,7 +1,7 @@
 use lib.IntN.{ℤ, natAbs}
 use mir.Syntax.{w64}
 use mir.ValLaws.{toZ-ofZ}
-use Rattle.channel.specs.Level.{zeroAt, magnitude}
+use Rattle.levels.specs.Level.{zeroAt, magnitude}
 use Rattle.writer.specs.Records.{offset}
 use mathlib.Core.Path.{refl, sym, ap, ap₂, _∙_}
 use mathlib.Core.Bool.{true, false}

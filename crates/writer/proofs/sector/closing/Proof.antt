@@ -1,6 +1,8 @@
 use mathlib.Core.Path.{sym, _∙_}
+use mathlib.Core.Bool.{false}
 use native.Mathlib.Omega.{arith}
 use lib.Seq.{take-all}
+use Rattle.frames.proofs.Words.{synced}
 use borrow.Author.Needs.{needs}
 use Rattle.writer.proofs.sector.closing.Statement.{statement}
 use Rattle.writer.proofs.sector.closing.Tie as tie
@@ -8,6 +10,9 @@ use Rattle.writer.proofs.sector.closing.Tie as tie
 -- src/sector.rt:95:13
 sync-table-requires : tie.Need-sync-table-requires
 sync-table-requires c κs = search needs
+
+level-table-requires : tie.Need-level-table-requires
+level-table-requires c κs = search needs
 
 -- src/sector.rt:96:9
 lay-sync-requires : tie.Need-lay-sync-requires
@@ -20,8 +25,10 @@ same-length c = search needs
 -- src/sector.rt:91:1
 returns : tie.Need-returns
 returns c =
-    let p = c .before .before .before .lay-sync .ensures in
-    record { run = p .run; bytes = sym (take-all 4 _ (omega (arith, c .before .before .before .before .before .before .before .before .pre .1))) ∙ p .bytes }
+    let a = c .before .before .before .before .before .before .before .before .before .before in
+    let l = c .before .before .before .lay-sync .ensures in
+    let p = synced (a .args .r) 0 false _ (a .args .out .now) _ (l .0) (l .1) (omega (arith, a .pre .1)) in
+    record { run = p .run; bytes = sym (take-all 4 _ (omega (arith, a .pre .1))) ∙ p .bytes }
 
 pub closing-spec : {M : Type 1} → statement M
-closing-spec = tie.close (tie.spec sync-table-requires lay-sync-requires same-length returns)
+closing-spec = tie.close (tie.spec sync-table-requires level-table-requires lay-sync-requires same-length returns)

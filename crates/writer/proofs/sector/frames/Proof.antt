@@ -8,10 +8,10 @@ use Rattle.writer.proofs.sector.frames.Statement.{statement}
 use Rattle.writer.proofs.sector.frames.Tie as tie
 
 abbrev Inv-loop : tie.InvT-loop
-Inv-loop m u y bytes s1₀ s2₀ out₀ codes run₀ k₀ s1 s2 out run k = (k ≤ 26) × ((length s1 ≡ 186) × ((length s2 ≡ 186) × ((length out ≡ 4836) × Laying run₀ run bytes out k)))
+Inv-loop m u y v bytes s1₀ s2₀ out₀ codes run₀ k₀ s1 s2 out run k = (k ≤ 26) × ((length s1 ≡ 186) × ((length s2 ≡ 186) × ((length out ≡ 4836) × Laying run₀ run bytes out k)))
 
 abbrev μ-loop : tie.MeasureT-loop
-μ-loop m u y bytes s1₀ s2₀ out₀ codes run₀ k₀ s1 s2 out run k = 26 - k
+μ-loop m u y v bytes s1₀ s2₀ out₀ codes run₀ k₀ s1 s2 out run k = 26 - k
 
 -- src/sector.rt:63:17
 codes-requires : tie.Need-codes-requires Inv-loop μ-loop
@@ -19,7 +19,7 @@ codes-requires c κs = tt
 
 -- src/sector.rt:65:5
 loop-holds : tie.Need-loop-holds Inv-loop μ-loop
-loop-holds c = let g = c .before .before .before .before .before .pre .1 .1 .1 in (omega arith, (g .1 .0, (g .1 .1, (g .0 .whole, laying-none _ _ _))))
+loop-holds c = let g = c .before .before .before .before .before .pre .1 .1 .1 .1 in (omega arith, (g .1 .0, (g .1 .1, (g .0 .whole, laying-none _ _ _))))
 
 -- src/sector.rt:66:17
 mul-a : tie.Need-mul-a Inv-loop μ-loop
@@ -43,13 +43,13 @@ part-frame-start c = omega arith
 
 -- src/sector.rt:69:40
 part-frame-end : tie.Need-part-frame-end Inv-loop μ-loop
-part-frame-end c = omega (arith, c .before .before .before .before .before .before .before .before .before .pre .1 .1 .1 .0 .bytes)
+part-frame-end c = omega (arith, c .before .before .before .before .before .before .before .before .before .pre .1 .1 .1 .1 .0 .bytes)
 
 -- src/sector.rt:69:13
 frame-requires : tie.Need-frame-requires Inv-loop μ-loop
 frame-requires c κs =
     let a = c .before .before .before .before .before .before .before .before .before .before .before .before in
-    let g = a .pre .1 .1 .1 .0 in
+    let g = a .pre .1 .1 .1 .1 .0 in
     let v = c .before .before .before .before .before .before .loop .inv in
     let k = c .before .before .before .before .before .before .loop .k in
     let bs = a .args .bytes .now in (
@@ -58,14 +58,17 @@ frame-requires c κs =
         a .pre .1 .0,
         (
           a .pre .1 .1 .0,
-          record {
-            state = sector-state (a .args .r) (c .before .before .before .before .before .before .loop .run) bs _ (c .before .before .before .before .before .before .loop .out) g k (omega arith) (v .1 .1 .1 .1) (bytes-of _ (λ j h. omega (arith, c .before .before .before .before .before .before .before .before .before .before .before .shared-slice-known .given j)));
-            code = c .before .before .before .code-of .ensures .1;
-            room = sector-room (a .args .r) (c .before .before .before .before .before .before .loop .run) bs _ (c .before .before .before .before .before .before .loop .out) g k (omega arith) (v .1 .1 .1 .1);
-            bytes = part-length bs k (g .bytes) (omega arith);
-            one = v .1 .0;
-            two = v .1 .1 .0;
-          },
+          (
+            a .pre .1 .1 .1 .0,
+            record {
+              state = sector-state (a .args .r) (c .before .before .before .before .before .before .loop .run) bs _ (c .before .before .before .before .before .before .loop .out) g k (omega arith) (v .1 .1 .1 .1) (bytes-of _ (λ j h. omega (arith, c .before .before .before .before .before .before .before .before .before .before .before .shared-slice-known .given j)));
+              code = c .before .before .before .code-of .ensures .1;
+              room = sector-room (a .args .r) (c .before .before .before .before .before .before .loop .run) bs _ (c .before .before .before .before .before .before .loop .out) g k (omega arith) (v .1 .1 .1 .1);
+              bytes = part-length bs k (g .bytes) (omega arith);
+              one = v .1 .0;
+              two = v .1 .1 .0;
+            },
+          ),
         ),
       ),
     )
@@ -113,15 +116,15 @@ loop-again c =
 
 -- src/sector.rt:59:1
 same-length : tie.Need-same-length Inv-loop μ-loop
-same-length c = omega (arith, c .before .before .before .before .before .before .before .pre .1 .1 .1 .1 .0)
+same-length c = omega (arith, c .before .before .before .before .before .before .before .pre .1 .1 .1 .1 .1 .0)
 
 -- src/sector.rt:59:1
 same-length-2 : tie.Need-same-length-2 Inv-loop μ-loop
-same-length-2 c = omega (arith, c .before .before .before .before .before .before .before .pre .1 .1 .1 .1 .1)
+same-length-2 c = omega (arith, c .before .before .before .before .before .before .before .pre .1 .1 .1 .1 .1 .1)
 
 -- src/sector.rt:59:1
 same-length-3 : tie.Need-same-length-3 Inv-loop μ-loop
-same-length-3 c = omega (arith, c .before .before .before .before .before .before .before .pre .1 .1 .1 .0 .whole)
+same-length-3 c = omega (arith, c .before .before .before .before .before .before .before .pre .1 .1 .1 .1 .0 .whole)
 
 -- src/sector.rt:59:1
 returns : tie.Need-returns Inv-loop μ-loop

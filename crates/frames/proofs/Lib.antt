@@ -1,0 +1,5 @@
+pub mod Buffers
+pub mod Words
+pub mod Choices
+pub mod Ended
+pub mod Filling
