@@ -1,19 +1,17 @@
--- The repair, decided by the syndromes of the mended word: what comes out is the nearest code word within t bytes, or the word where there is none.
+-- The repair, decided by whether the mended word is a code word: what comes out is the nearest code word within t bytes, or the word where there is none.
 -- Assumes nothing.
 use mathlib.Core.Path.{_≡_, refl, sym, ap, ap₂, _∙_, subst}
 use mathlib.Core.Bool.{Bool, true, false, false≢true}
 use mathlib.Core.List.{List}
 use Prim.Native.Nat.{ℕ, _+_, _<_, _≤_}
 use native.Mathlib.Omega.{arith}
-use lib.Dec.{eqb}
 use lib.ListN.{length, getD, take}
 use lib.Seq.{getD-take, length-take-le}
 use Rattle.lists.specs.Bytes.{Bytes}
 use Rattle.lists.specs.Count.{distance}
 use Rattle.lists.specs.Fill.{tabulate}
-use Rattle.lists.specs.Test.{below}
-use Rattle.lists.proofs.Fill.{length-tabulate, getD-tabulate}
-use Rattle.lists.proofs.Test.{below-same, truth, truth-of}
+use Rattle.lists.proofs.Fill.{getD-tabulate}
+use Rattle.lists.proofs.Test.{truth, truth-of}
 use Rattle.codes.specs.Word.{syndrome, isCode}
 use Rattle.codes.specs.Nearest.{nearest, outcomeOf}
 use Rattle.codes.specs.Decoding.{at, Locator, NonZero, rootPlaces, mended}
@@ -25,32 +23,16 @@ use Rattle.codes.proofs.Values.{roots-descending, descending-at}
 use Rattle.codes.proofs.Mended.{mended-near, mended-length, mended-bytes, mended-distance}
 use Rattle.codes.proofs.Nearest.{Near, nearest-none, nearest-near, nearest-code, outcome-clean, outcome-corrected, outcome-uncorrectable}
 
--- every entry is 0
-abbrev pub zeros : List ℕ → Bool
-zeros s = below (length s) (λ i. eqb (getD s i 0) 0)
-
--- p syndromes of w are all 0 exactly where w is a code word with p roots
-zeros-code : (p : ℕ) (w s : List ℕ) → s ≡ tabulate (syndrome w) p → zeros s ≡ isCode p w
-unfolding isCode
-zeros-code p w s e =
-    ap zeros e ∙ ap (λ (n : ℕ). below n (λ i. eqb (getD (tabulate (syndrome w) p) i 0) 0)) (length-tabulate (syndrome w) p)
-    ∙ below-same p (λ i. eqb (getD (tabulate (syndrome w) p) i 0) 0) (λ i. eqb (syndrome w i) 0) (λ i l. ap (λ (x : ℕ). eqb x 0) (getD-tabulate (syndrome w) p i l))
-
 -- b is what the repair gives for w, and o what it says of it
 abbrev pub Repaired : ℕ → ℕ → List ℕ → List ℕ → Outcome → Type 0
 Repaired p t w b o = (b ≡ nearest p t w) × (o ≡ outcomeOf p t w)
 
-module _ (p t : ℕ) (w s : List ℕ) (hw : Bytes w) (short : length w ≤ 255) (room : t + t ≤ p) (ss : s ≡ tabulate (syndrome w) p) where
-  code : zeros s ≡ isCode p w
-  code = zeros-code p w s ss
+module _ (p t : ℕ) (w : List ℕ) (hw : Bytes w) (short : length w ≤ 255) (room : t + t ≤ p) where
+  pub clean : isCode p w ≡ true → Repaired p t w w Clean
+  clean c = (sym (nearest-code p t w hw short room (code-of-test p w (truth-of (isCode p w) c))), sym (outcome-clean p t w hw c))
 
-  pub clean : zeros s ≡ true → Repaired p t w w Clean
-  clean z =
-      let c : isCode p w ≡ true = sym code ∙ z in
-      (sym (nearest-code p t w hw short room (code-of-test p w (truth-of (isCode p w) c))), sym (outcome-clean p t w hw c))
-
-  module _ (q : List ℕ) (hq : Bytes q) (loc : Locator (at s) t q) (ks : List ℕ) (ek : ks ≡ rootPlaces q (length w)) (m : List ℕ) (em : m ≡ mended (at s) ks w)
-      (again : List ℕ) (sm : again ≡ tabulate (syndrome m) p) (dirty : zeros s ≡ false) where
+  module _ (s : List ℕ) (ss : s ≡ tabulate (syndrome w) p) (q : List ℕ) (hq : Bytes q) (loc : Locator (at s) t q) (ks : List ℕ) (ek : ks ≡ rootPlaces q (length w))
+      (m : List ℕ) (em : m ≡ mended (at s) ks w) (dirty : isCode p w ≡ false) where
     few : length ks ≤ t
     few = omega (arith, ap length ek, roots-few (length w) q hq short (lead-nonzero q (loc .some)), loc .size)
 
@@ -62,11 +44,10 @@ module _ (p t : ℕ) (w s : List ℕ) (hw : Bytes w) (short : length w ≤ 255) 
       close = omega (arith, ap (λ (x : List ℕ). distance w x) em, mended-distance (at s) ks w, few);
     }
 
-    pub corrected : zeros again ≡ true → Repaired p t w m Corrected
-    corrected z =
-        let c : isCode p m ≡ true = sym (zeros-code p m again sm) ∙ z in
+    pub corrected : isCode p m ≡ true → Repaired p t w m Corrected
+    corrected c =
         let n : nearest p t w ≡ m = nearest-near p t w hw short room m (near c) in
-        (sym n, sym (outcome-corrected p t w hw (sym code ∙ dirty) (ap (isCode p) n ∙ c)))
+        (sym n, sym (outcome-corrected p t w hw dirty (ap (isCode p) n ∙ c)))
 
     -- a code word within t bytes would have been found
     none-near : isCode p m ≡ false → (c : List ℕ) → Near p t w c → ⊥
@@ -76,11 +57,10 @@ module _ (p t : ℕ) (w s : List ℕ) (hw : Bytes w) (short : length w ≤ 255) 
         ∙ mended-near p t w c hw short room n (at s) (λ i l. ap (λ (x : List ℕ). at x i) ss ∙ getD-tabulate (syndrome w) p i l) q hq loc in
         false≢true (sym f ∙ ap (isCode p) e ∙ truth (isCode p c) (test-of-code p c (n .code)))
 
-    pub uncorrectable : zeros again ≡ false → Repaired p t w w Uncorrectable
-    uncorrectable z =
-        let f : isCode p m ≡ false = sym (zeros-code p m again sm) ∙ z in
+    pub uncorrectable : isCode p m ≡ false → Repaired p t w w Uncorrectable
+    uncorrectable f =
         let n : nearest p t w ≡ w = nearest-none p t w hw (none-near f) in
-        (sym n, sym (outcome-uncorrectable p t w hw (sym code ∙ dirty) n))
+        (sym n, sym (outcome-uncorrectable p t w hw dirty n))
 
 -- each place found is a place of the word
 pub places-below : (q xs : List ℕ) (n count : ℕ) → take count xs ≡ rootPlaces q n → count ≤ length xs → (j : ℕ) → j < count → getD xs j 0 < n

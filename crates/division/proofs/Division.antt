@@ -14,7 +14,7 @@ use Rattle.lists.specs.Bytes.{Bytes}
 use Rattle.lists.proofs.Bytes.{zeros-bytes}
 use Rattle.field.specs.Field.{add, mul}
 use Rattle.codes.specs.Parity.{shiftIn, remainder, generatorTail, parity}
-use Rattle.division.specs.Packed.{number, high, low, multiples, Packed, Beside}
+use Rattle.division.specs.Packed.{top, number, high, low, multiples, Packed, Beside}
 use Rattle.division.proofs.Numbers.{number-zeros}
 use Rattle.division.proofs.Step.{packed-next}
 
@@ -54,8 +54,8 @@ unfolding remainder
 divided-none m d p le e = packed-zeros p
 
 -- e is where the multiple stands
-pub divided-more : (m d : List ℕ) (i h l b e h' l' : ℕ) → i < length d → b ≡ getD d i 0 → (e ≡ 2 * add b (h / 72057594037927936)) × (add b (h / 72057594037927936) < 256)
-    → h' ≡ add (h % 72057594037927936 * 256 + l / 72057594037927936) (getD m e 0) → l' ≡ add (l % 72057594037927936 * 256) (getD m (e + 1) 0)
+pub divided-more : (m d : List ℕ) (i h l b e h' l' : ℕ) → i < length d → b ≡ getD d i 0 → (e ≡ 2 * add b (h / top)) × (add b (h / top) < 256)
+    → h' ≡ add (h % top * 256 + l / top) (getD m e 0) → l' ≡ add (l % top * 256) (getD m (e + 1) 0)
     → Divided m d i h l → Divided m d (i + 1) h' l'
 divided-more m d i h l b e h' l' li eb ee eh el w p le em =
     let n = packed-next p b h l (remainder (generatorTail p) (replicate p 0) (take i d)) m le em (ee .1) (w p le em) in
@@ -64,8 +64,8 @@ divided-more m d i h l b e h' l' li eb ee eh el w p le em =
     record {
       size = ap length q ∙ n .size;
       bytes = subst Bytes (sym q) (n .bytes);
-      first = eh ∙ ap (λ (k : ℕ). add (h % 72057594037927936 * 256 + l / 72057594037927936) (getD m k 0)) (ee .0) ∙ n .first ∙ ap high (sym q);
-      second = el ∙ ap (λ (k : ℕ). add (l % 72057594037927936 * 256) (getD m (k + 1) 0)) (ee .0) ∙ n .second ∙ ap low (sym q);
+      first = eh ∙ ap (λ (k : ℕ). add (h % top * 256 + l / top) (getD m k 0)) (ee .0) ∙ n .first ∙ ap high (sym q);
+      second = el ∙ ap (λ (k : ℕ). add (l % top * 256) (getD m (k + 1) 0)) (ee .0) ∙ n .second ∙ ap low (sym q);
     }
 
 pub divided-all : (m d : List ℕ) (i h l : ℕ) → length d ≤ i → Divided m d i h l → (p : ℕ) → p ≤ 16 → m ≡ multiples p → Packed p (parity p d) h l
@@ -86,8 +86,8 @@ pub shifting-none : (m row old : List ℕ) → Shifting m row old old 0
 shifting-none m row old = record { same = refl; done = λ p R le e w i l. absurd (omega arith); left = λ i l. refl }
 
 pub shifting-more : (m row old regs : List ℕ) (j h l e h' l' : ℕ) → length old ≡ 2 * length row → j < length row → h ≡ getD regs (2 * j) 0 → l ≡ getD regs (2 * j + 1) 0
-    → (e ≡ 2 * add (getD row j 0) (h / 72057594037927936)) × (add (getD row j 0) (h / 72057594037927936) < 256)
-    → h' ≡ add (h % 72057594037927936 * 256 + l / 72057594037927936) (getD m e 0) → l' ≡ add (l % 72057594037927936 * 256) (getD m (e + 1) 0)
+    → (e ≡ 2 * add (getD row j 0) (h / top)) × (add (getD row j 0) (h / top) < 256)
+    → h' ≡ add (h % top * 256 + l / top) (getD m e 0) → l' ≡ add (l % top * 256) (getD m (e + 1) 0)
     → Shifting m row old regs j → Shifting m row old (set (set regs (2 * j) h') (2 * j + 1) l') (j + 1)
 shifting-more m row old regs j h l e h' l' size lj eh el ee eh' el' w = record {
   same = length-set (set regs (2 * j) h') (2 * j + 1) l' ∙ length-set regs (2 * j) h' ∙ w .same;
@@ -106,8 +106,8 @@ shifting-more m row old regs j h l e h' l' size lj eh el ee eh' el' w = record {
       rw q (record {
         size = n .size;
         bytes = n .bytes;
-        first = a ∙ eh' ∙ ap (λ (k : ℕ). add (h % 72057594037927936 * 256 + l / 72057594037927936) (getD m k 0)) (ee .0) ∙ n .first;
-        second = c ∙ el' ∙ ap (λ (k : ℕ). add (l % 72057594037927936 * 256) (getD m (k + 1) 0)) (ee .0) ∙ n .second;
+        first = a ∙ eh' ∙ ap (λ (k : ℕ). add (h % top * 256 + l / top) (getD m k 0)) (ee .0) ∙ n .first;
+        second = c ∙ el' ∙ ap (λ (k : ℕ). add (l % top * 256) (getD m (k + 1) 0)) (ee .0) ∙ n .second;
       }))
       (λ q.
       let n = w .done p R le em b i (omega (arith, q)) in

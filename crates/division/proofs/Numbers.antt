@@ -9,7 +9,7 @@ use native.Mathlib.Numerals.{add-one}
 use native.Mathlib.Omega.{arith}
 use lib.Bits.{xor-block}
 use Rattle.field.specs.Field.{add}
-use Rattle.division.specs.Packed.{number}
+use Rattle.division.specs.Packed.{top, number}
 
 pub number-same : (f g : ℕ → ℕ) (k l n : ℕ) → ((i : ℕ) → i < n → f (k + i) ≡ g (l + i)) → number f k n ≡ number g l n
 unfolding number
@@ -45,7 +45,7 @@ module _ (f : ℕ → ℕ) (small : (i : ℕ) → f i < 256) where
   number-lt k (suc n) = omega (arith, number-lt k n, small (k + n), pow-suc 256 n)
 
   -- a number of seven bytes or less has room for one more
-  pub number-room : (k n : ℕ) → n < 8 → number f k n < 72057594037927936
+  pub number-room : (k n : ℕ) → n < 8 → number f k n < top
   number-room k n l =
       let m : n ≤ 7 = omega arith in
       let z : 0 < 256 = omega arith in
@@ -61,13 +61,13 @@ module _ (f : ℕ → ℕ) (small : (i : ℕ) → f i < 256) where
       ap₂ (λ (x y : ℕ). x * 256 + f y) (number-front k n) e ∙ omega (arith, p)
 
   -- eight bytes: the first, and the seven after it
-  pub top : (k : ℕ) → number f k 8 / 72057594037927936 ≡ f k
-  top k = omega (arith, number-front k 7, number-lt (k + 1) 7)
+  pub first-byte : (k : ℕ) → number f k 8 / top ≡ f k
+  first-byte k = omega (arith, number-front k 7, number-lt (k + 1) 7)
 
-  pub rest : (k : ℕ) → number f k 8 % 72057594037927936 ≡ number f (k + 1) 7
+  pub rest : (k : ℕ) → number f k 8 % top ≡ number f (k + 1) 7
   rest k = omega (arith, number-front k 7, number-lt (k + 1) 7)
 
   -- eight bytes from the next place on
-  pub moved : (k : ℕ) → number f k 8 % 72057594037927936 * 256 + f (k + 8) ≡ number f (k + 1) 8
+  pub moved : (k : ℕ) → number f k 8 % top * 256 + f (k + 8) ≡ number f (k + 1) 8
   unfolding number
   moved k = ap₂ (λ (x y : ℕ). x * 256 + f y) (rest k) (omega arith)

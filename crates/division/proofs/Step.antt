@@ -18,8 +18,8 @@ use Rattle.codes.specs.Parity.{addWords, timesRoot, shiftIn, remainder, generat
 use Rattle.codes.proofs.Words.{addWords-length}
 use Rattle.codes.proofs.Division.{remainder-bytes}
 use Rattle.codes.proofs.Shift.{shiftAt, shift-is, shift-size, map-at}
-use Rattle.division.specs.Packed.{number, high, low, half, multiples, Packed}
-use Rattle.division.proofs.Numbers.{number-same, number-add, top, moved}
+use Rattle.division.specs.Packed.{top, number, high, low, half, multiples, Packed}
+use Rattle.division.proofs.Numbers.{number-same, number-add, first-byte, moved}
 
 -- past the end too
 map-place : (h : ℕ) (g : List ℕ) (k : ℕ) → getD (map (mul h) g) k 0 ≡ mul h (getD g k 0)
@@ -52,7 +52,7 @@ module _ (g x : List ℕ) (b : ℕ) (same : length g ≡ length x) (bytes : Byte
 
   -- places k to k + 7 of the next register: those from k + 1 on, and a multiple of the generator
   next : (k : ℕ) → number (λ i. getD (shiftIn g x b) i 0) k 8
-      ≡ add (number at k 8 % 72057594037927936 * 256 + at (k + 8)) (number (λ i. getD (map (mul h) g) i 0) k 8)
+      ≡ add (number at k 8 % top * 256 + at (k + 8)) (number (λ i. getD (map (mul h) g) i 0) k 8)
   unfolding at h
   next k =
       number-same (λ i. getD (shiftIn g x b) i 0) (λ i. add (at (i + 1)) (mul h (getD g i 0))) k k 8 (λ i l. shift-place g x b (k + i) same)
@@ -61,18 +61,18 @@ module _ (g x : List ℕ) (b : ℕ) (same : length g ≡ length x) (bytes : Byte
       (number-same (λ i. at (i + 1)) at k (k + 1) 8 (λ i l. ap at (omega arith)) ∙ sym (moved at small k))
       (number-same (λ i. mul h (getD g i 0)) (λ i. getD (map (mul h) g) i 0) k k 8 (λ i l. sym (map-place h g (k + i))))
 
-  pub next-high : high (shiftIn g x b) ≡ add (high x % 72057594037927936 * 256 + low x / 72057594037927936) (high (map (mul (add b (high x / 72057594037927936))) g))
+  pub next-high : high (shiftIn g x b) ≡ add (high x % top * 256 + low x / top) (high (map (mul (add b (high x / top))) g))
   unfolding high low at h
   next-high =
       next 0
-      ∙ ap₂ (λ (u v : ℕ). add (number at 0 8 % 72057594037927936 * 256 + u) (number (λ i. getD (map (mul (add b v)) g) i 0) 0 8)) (sym (top at small 8)) (sym (top at small 0))
+      ∙ ap₂ (λ (u v : ℕ). add (number at 0 8 % top * 256 + u) (number (λ i. getD (map (mul (add b v)) g) i 0) 0 8)) (sym (first-byte at small 8)) (sym (first-byte at small 0))
 
-  pub next-low : length x ≤ 16 → low (shiftIn g x b) ≡ add (low x % 72057594037927936 * 256) (low (map (mul (add b (high x / 72057594037927936))) g))
+  pub next-low : length x ≤ 16 → low (shiftIn g x b) ≡ add (low x % top * 256) (low (map (mul (add b (high x / top))) g))
   unfolding high low at h
   next-low l =
       next 8
       ∙ ap₂ (λ (u v : ℕ). add u (number (λ i. getD (map (mul (add b v)) g) i 0) 8 8))
-      (ap (λ (u : ℕ). number at 8 8 % 72057594037927936 * 256 + u) (List·getD-eq-default x 0 l) ∙ omega arith) (sym (top at small 0))
+      (ap (λ (u : ℕ). number at 8 8 % top * 256 + u) (List·getD-eq-default x 0 l) ∙ omega arith) (sym (first-byte at small 0))
 
 -- ---- the table
 
@@ -115,19 +115,19 @@ unfolding remainder
 shift-bytes g x b h = remainder-bytes g (b ∷ []) x h
 
 -- a register moved up by one place fits a number of 64 bits
-pub room : (h l : ℕ) → l < 18446744073709551616 → h % 72057594037927936 * 256 + l / 72057594037927936 < 18446744073709551616
-room h l k = go (h % 72057594037927936) (l / 72057594037927936) (omega arith) (omega arith)
+pub room : (h l : ℕ) → l < 18446744073709551616 → h % top * 256 + l / top < 18446744073709551616
+room h l k = go (h % top) (l / top) (omega arith) (omega arith)
   where
-    go : (a b : ℕ) → a < 72057594037927936 → b < 256 → a * 256 + b < 18446744073709551616
+    go : (a b : ℕ) → a < top → b < 256 → a * 256 + b < 18446744073709551616
     go a b la lb = omega arith
 
-pub byte-index : (b h : ℕ) → b < 256 → h < 18446744073709551616 → add b (h / 72057594037927936) < 256
+pub byte-index : (b h : ℕ) → b < 256 → h < 18446744073709551616 → add b (h / top) < 256
 byte-index b h l m = add-lt l (omega arith)
 
-pub packed-next : (p b h l : ℕ) (x m : List ℕ) → p ≤ 16 → m ≡ multiples p → add b (h / 72057594037927936) < 256 → Packed p x h l
+pub packed-next : (p b h l : ℕ) (x m : List ℕ) → p ≤ 16 → m ≡ multiples p → add b (h / top) < 256 → Packed p x h l
     → Packed p (shiftIn (generatorTail p) x b)
-    (add (h % 72057594037927936 * 256 + l / 72057594037927936) (getD m (2 * add b (h / 72057594037927936)) 0))
-    (add (l % 72057594037927936 * 256) (getD m (2 * add b (h / 72057594037927936) + 1) 0))
+    (add (h % top * 256 + l / top) (getD m (2 * add b (h / top)) 0))
+    (add (l % top * 256) (getD m (2 * add b (h / top) + 1) 0))
 packed-next p b h l x m le e i w =
     let g : List ℕ = generatorTail p in
     let s : length g ≡ length x = tail-length p ∙ sym (w .size) in
@@ -135,13 +135,13 @@ packed-next p b h l x m le e i w =
       size = shift-size g x b s ∙ w .size;
       bytes = shift-bytes g x b (w .bytes);
       first = ap₂ (λ (u v : ℕ). add u v)
-          (ap₂ (λ (u v : ℕ). u % 72057594037927936 * 256 + v / 72057594037927936) (w .first) (w .second))
-          (ap (λ (t : List ℕ). getD t (2 * add b (h / 72057594037927936)) 0) e ∙ multiples-high p (add b (h / 72057594037927936)) i
-          ∙ ap (λ (u : ℕ). high (map (mul (add b (u / 72057594037927936))) g)) (w .first))
+          (ap₂ (λ (u v : ℕ). u % top * 256 + v / top) (w .first) (w .second))
+          (ap (λ (t : List ℕ). getD t (2 * add b (h / top)) 0) e ∙ multiples-high p (add b (h / top)) i
+          ∙ ap (λ (u : ℕ). high (map (mul (add b (u / top))) g)) (w .first))
           ∙ sym (next-high g x b s (w .bytes));
       second = ap₂ (λ (u v : ℕ). add u v)
-          (ap (λ (u : ℕ). u % 72057594037927936 * 256) (w .second))
-          (ap (λ (t : List ℕ). getD t (2 * add b (h / 72057594037927936) + 1) 0) e ∙ multiples-low p (add b (h / 72057594037927936)) i
-          ∙ ap (λ (u : ℕ). low (map (mul (add b (u / 72057594037927936))) g)) (w .first))
+          (ap (λ (u : ℕ). u % top * 256) (w .second))
+          (ap (λ (t : List ℕ). getD t (2 * add b (h / top) + 1) 0) e ∙ multiples-low p (add b (h / top)) i
+          ∙ ap (λ (u : ℕ). low (map (mul (add b (u / top))) g)) (w .first))
           ∙ sym (next-low g x b s (w .bytes) (omega (arith, w .size)));
     }

@@ -39,6 +39,9 @@ unpacked-length : (h l : ℕ) → length (unpacked h l) ≡ 16
 unfolding unpacked
 unpacked-length h l = length-append (tabulate (byteOf h) 8) (tabulate (byteOf l) 8) ∙ ap₂ (λ (a b : ℕ). a + b) (length-tabulate (byteOf h) 8) (length-tabulate (byteOf l) 8)
 
+pub unpacked-take : (h l : ℕ) → unpacked h l ≡ take 16 (unpacked h l)
+unpacked-take h l = sym (take-all 16 (unpacked h l) (omega (arith, unpacked-length h l)))
+
 -- place i of a register
 pub unpacked-at : (x : List ℕ) → Bytes x → (i : ℕ) → i < 16 → getD (unpacked (high x) (low x)) i 0 ≡ getD x i 0
 unfolding unpacked high low
@@ -62,7 +65,7 @@ unpacked-register p x b e l =
     (λ i m. let k : i < p = omega (arith, n) in getD-take p (unpacked (high x) (low x)) i 0 k ∙ unpacked-at x b i (omega arith))
 
 pub unpacked-whole : (x : List ℕ) → Bytes x → length x ≡ 16 → unpacked (high x) (low x) ≡ x
-unpacked-whole x b e = sym (take-all 16 (unpacked (high x) (low x)) (omega (arith, unpacked-length (high x) (low x)))) ∙ unpacked-register 16 x b e (omega arith)
+unpacked-whole x b e = unpacked-take (high x) (low x) ∙ unpacked-register 16 x b e (omega arith)
 
 pub unpacked-packed : (x : List ℕ) (h l : ℕ) → Packed 16 x h l → unpacked h l ≡ x
 unpacked-packed x h l w = ap₂ unpacked (w .first) (w .second) ∙ unpacked-whole x (w .bytes) (w .size)

@@ -10,6 +10,10 @@ use Rattle.lists.specs.Fill.{tabulate}
 use Rattle.field.specs.Field.{mul}
 use Rattle.codes.specs.Parity.{addWords, generatorTail, parity}
 
+-- 2^56: a number of eight bytes by it is its first byte
+abbrev pub top : ℕ
+top = 0x100000000000000
+
 -- n bytes f k, f (k + 1), .. as one number, the first byte highest
 unfoldable pub number : (ℕ → ℕ) → ℕ → ℕ → ℕ
 number f k zero = 0

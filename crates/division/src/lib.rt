@@ -2,6 +2,7 @@
 // of a received word.
 mod ied;
 mod parity;
+mod places;
 mod received;
 mod register;
 mod table;
@@ -12,7 +13,8 @@ pub use parity::parity10;
 pub use parity::parity10_with;
 pub use parity::parity16;
 pub use parity::parity16_with;
-pub use parity::unpack;
+pub use parity::unpack10;
+pub use places::unpack;
 pub use received::is_zero;
 pub use received::remainder_of;
 pub use register::Remainder;

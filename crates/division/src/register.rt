@@ -6,7 +6,7 @@ ghost use Prim.Native.Nat.{ℕ, _+_, _*_, _/_, _%_, _≤_, _<_};
 ghost use lib.ListN.{length, getD};
 ghost use Rattle.field.specs.Field.{add};
 ghost use Rattle.codes.specs.Parity.{shiftIn, generatorTail, parity};
-ghost use Rattle.division.specs.Packed.{high, low, multiples, Packed, Beside};
+ghost use Rattle.division.specs.Packed.{top, high, low, multiples, Packed, Beside};
 
 // The first eight places of a register, and the last eight.
 pub struct Remainder {
@@ -25,7 +25,7 @@ fn wide(b: u8) -> u64
 
 // Where the multiple stands that a byte takes: by the sum of the byte and what falls out of the register.
 fn entry(high: u64, b: u8) -> usize
-    ensures { λ r. ⌜ (r ≡ 2 * add b (high / 72057594037927936)) × (add b (high / 72057594037927936) < 256) ⌝ }
+    ensures { λ r. ⌜ (r ≡ 2 * add b (high / top)) × (add b (high / top) < 256) ⌝ }
 {
     let h = wide(b) ^ (high / TOP);
     2 * (h as usize)
@@ -33,13 +33,13 @@ fn entry(high: u64, b: u8) -> usize
 
 // The register, moved up by one place, with the multiple (x, y).
 fn moved_high(high: u64, low: u64, x: u64) -> u64
-    ensures { λ r. ⌜ r ≡ add (high % 72057594037927936 * 256 + low / 72057594037927936) x ⌝ }
+    ensures { λ r. ⌜ r ≡ add (high % top * 256 + low / top) x ⌝ }
 {
     ((high % TOP) * 256 + low / TOP) ^ x
 }
 
 fn moved_low(low: u64, y: u64) -> u64
-    ensures { λ r. ⌜ r ≡ add (low % 72057594037927936 * 256) y ⌝ }
+    ensures { λ r. ⌜ r ≡ add (low % top * 256) y ⌝ }
 {
     ((low % TOP) * 256) ^ y
 }

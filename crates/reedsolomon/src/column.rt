@@ -6,8 +6,10 @@ ghost use Rattle.lists.specs.Fill.{tabulate};
 ghost use Rattle.field.specs.Tables.{LogTable};
 ghost use Rattle.codes.specs.Word.{syndrome};
 ghost use Rattle.codes.specs.Nearest.{nearest, outcomeOf};
+ghost use Rattle.division.specs.Packed.{multiples, unpacked};
 ghost use Rattle.codes.specs.Decoding.{at, Locator, NonZero, rootPlaces, mended};
 use codes::Outcome;
+use division::Remainder;
 
 // A column and what became of it. As rows do, it goes in by value and comes back.
 pub struct Column {
@@ -21,12 +23,14 @@ struct ColumnPlaces {
     count: usize,
 }
 
-fn column_syndromes(t: &[u8; 768], w: &[u8; 208]) -> [u8; 16]
+// The syndromes of a received column, from what is left of it.
+fn column_syndromes(t: &[u8; 768], x: Remainder) -> [u8; 16]
     requires { ⌜ LogTable (now t) ⌝ }
-    ensures { λ r. ⌜ r ≡ tabulate (syndrome (now (w .entry))) 16 ⌝ }
+    ensures { λ r. ⌜ r ≡ tabulate (syndrome (take 16 (unpacked (x .high) (x .low)))) 16 ⌝ }
 {
+    let b = division::unpack(x.high, x.low);
     let mut s = [0u8; 16];
-    crate::syndromes::syndromes_into(t, w, &mut s);
+    crate::syndromes::syndromes_into(t, &b, &mut s);
     s
 }
 
@@ -61,24 +65,25 @@ fn column_mend(t: &[u8; 768], w: [u8; 208], s: [u8; 16], p: ColumnPlaces) -> [u8
     m
 }
 
-// The repair, over a lent table of logarithms.
-pub fn correct_column_with(t: &[u8; 768], r: Column) -> Column
-    requires { ⌜ LogTable (now t) ⌝ }
+// The repair, over lent tables: of logarithms, and of the generator's multiples.
+pub fn correct_column_with(t: &[u8; 768], m: &[u64; 512], r: Column) -> Column
+    requires { ⌜ LogTable (now t) × (now m ≡ multiples 16) ⌝ }
     ensures { λ q. ⌜ (q .bytes ≡ nearest 16 8 (r .bytes)) × (q .outcome ≡ outcomeOf 16 8 (r .bytes)) ⌝ }
 {
     let bytes = r.bytes;
-    let s = column_syndromes(t, &bytes);
-    if crate::syndromes::all_zero(&s) {
+    let x = division::remainder_of(m, &bytes, 16);
+    if division::is_zero(x) {
         return Column {
             bytes,
             outcome: Outcome::Clean,
         };
     }
+    let s = column_syndromes(t, x);
     let l = column_locator(t, s);
     let p = column_search(t, l);
     let near = column_mend(t, bytes, s, p);
-    let again = column_syndromes(t, &near);
-    if crate::syndromes::all_zero(&again) {
+    let again = division::remainder_of(m, &near, 16);
+    if division::is_zero(again) {
         return Column {
             bytes: near,
             outcome: Outcome::Corrected,
@@ -95,5 +100,6 @@ pub fn correct_column(r: Column) -> Column
     ensures { λ q. ⌜ (q .bytes ≡ nearest 16 8 (r .bytes)) × (q .outcome ≡ outcomeOf 16 8 (r .bytes)) ⌝ }
 {
     let t = field::log_table();
-    correct_column_with(&t, r)
+    let m = division::multiples16();
+    correct_column_with(&t, &m, r)
 }

@@ -6,8 +6,10 @@ ghost use Rattle.lists.specs.Fill.{tabulate};
 ghost use Rattle.field.specs.Tables.{LogTable};
 ghost use Rattle.codes.specs.Word.{syndrome};
 ghost use Rattle.codes.specs.Nearest.{nearest, outcomeOf};
+ghost use Rattle.division.specs.Packed.{multiples, unpacked};
 ghost use Rattle.codes.specs.Decoding.{at, Locator, NonZero, rootPlaces, mended};
 use codes::Outcome;
+use division::Remainder;
 
 // A row and what became of it. It goes in by value and its tally comes back with it (document 01).
 pub struct Row {
@@ -21,12 +23,14 @@ struct RowPlaces {
     count: usize,
 }
 
-fn row_syndromes(t: &[u8; 768], w: &[u8; 182]) -> [u8; 10]
+// The syndromes of a received row, from what is left of it.
+fn row_syndromes(t: &[u8; 768], x: Remainder) -> [u8; 10]
     requires { ⌜ LogTable (now t) ⌝ }
-    ensures { λ r. ⌜ r ≡ tabulate (syndrome (now (w .entry))) 10 ⌝ }
+    ensures { λ r. ⌜ r ≡ tabulate (syndrome (take 10 (unpacked (x .high) (x .low)))) 10 ⌝ }
 {
+    let b = division::unpack10(x.high, x.low);
     let mut s = [0u8; 10];
-    crate::syndromes::syndromes_into(t, w, &mut s);
+    crate::syndromes::syndromes_into(t, &b, &mut s);
     s
 }
 
@@ -61,24 +65,25 @@ fn row_mend(t: &[u8; 768], w: [u8; 182], s: [u8; 10], p: RowPlaces) -> [u8; 182]
     m
 }
 
-// The repair, over a lent table of logarithms.
-pub fn correct_row_with(t: &[u8; 768], r: Row) -> Row
-    requires { ⌜ LogTable (now t) ⌝ }
+// The repair, over lent tables: of logarithms, and of the generator's multiples.
+pub fn correct_row_with(t: &[u8; 768], m: &[u64; 512], r: Row) -> Row
+    requires { ⌜ LogTable (now t) × (now m ≡ multiples 10) ⌝ }
     ensures { λ q. ⌜ (q .bytes ≡ nearest 10 5 (r .bytes)) × (q .outcome ≡ outcomeOf 10 5 (r .bytes)) ⌝ }
 {
     let bytes = r.bytes;
-    let s = row_syndromes(t, &bytes);
-    if crate::syndromes::all_zero(&s) {
+    let x = division::remainder_of(m, &bytes, 10);
+    if division::is_zero(x) {
         return Row {
             bytes,
             outcome: Outcome::Clean,
         };
     }
+    let s = row_syndromes(t, x);
     let l = row_locator(t, s);
     let p = row_search(t, l);
     let near = row_mend(t, bytes, s, p);
-    let again = row_syndromes(t, &near);
-    if crate::syndromes::all_zero(&again) {
+    let again = division::remainder_of(m, &near, 10);
+    if division::is_zero(again) {
         return Row {
             bytes: near,
             outcome: Outcome::Corrected,
@@ -95,5 +100,6 @@ pub fn correct_row(r: Row) -> Row
     ensures { λ q. ⌜ (q .bytes ≡ nearest 10 5 (r .bytes)) × (q .outcome ≡ outcomeOf 10 5 (r .bytes)) ⌝ }
 {
     let t = field::log_table();
-    correct_row_with(&t, r)
+    let m = division::multiples10();
+    correct_row_with(&t, &m, r)
 }

@@ -1,10 +1,8 @@
 // The syndromes of a word (document 01: its sums at the roots), over words of any length and any number of roots.
 ghost use mathlib.Core.Path.{_≡_};
 ghost use Prim.Native.Nat.{_<_, _≤_};
-ghost use lib.Dec.{eqb};
-ghost use lib.ListN.{length, getD};
+ghost use lib.ListN.{length};
 ghost use Rattle.lists.specs.Fill.{tabulate};
-ghost use Rattle.lists.specs.Test.{below};
 ghost use Rattle.field.specs.Tables.{LogTable};
 ghost use Rattle.codes.specs.Word.{valueAt, syndrome};
 
@@ -35,18 +33,4 @@ pub fn syndromes_into(t: &[u8; 768], w: &[u8], out: &mut [u8])
         i += 1;
         k += 1;
     }
-}
-
-// Every byte is 0.
-pub fn all_zero(s: &[u8]) -> bool
-    ensures { λ r. ⌜ r ≡ below (length (now (s .entry))) (λ i. eqb (getD (now (s .entry)) i 0) 0) ⌝ }
-{
-    let mut i: usize = 0;
-    while i < s.len() {
-        if s[i] != 0 {
-            return false;
-        }
-        i += 1;
-    }
-    true
 }

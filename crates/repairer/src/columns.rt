@@ -3,6 +3,7 @@ ghost use mathlib.Core.Path.{_≡_};
 ghost use Prim.Native.Nat.{_<_};
 ghost use lib.ListN.{length};
 ghost use Rattle.field.specs.Tables.{LogTable};
+ghost use Rattle.division.specs.Packed.{multiples};
 ghost use Rattle.codes.specs.Nearest.{nearest, outcomeOf};
 ghost use Rattle.eccblock.specs.Block.{recordingRow};
 ghost use Rattle.eccblock.specs.Stages.{Stored};
@@ -51,13 +52,14 @@ fn store_column(w: &[u8; 208], j: usize, b: &mut [u8])
 }
 
 // Column j repaired in its place, and what became of it.
-fn repair_column(t: &[u8; 768], j: usize, b: &mut [u8]) -> Outcome
-    requires { ⌜ LogTable (now t) × (length (now b) ≡ 37856) × (j < 172) ⌝ }
+fn repair_column(t: &[u8; 768], m: &[u64; 512], j: usize, b: &mut [u8]) -> Outcome
+    requires { ⌜ LogTable (now t) × (now m ≡ multiples 16) × (length (now b) ≡ 37856) × (j < 172) ⌝ }
     ensures { λ r. ⌜ (r ≡ outcomeOf 16 8 (columnOf (now (b .entry)) j)) × Stored (columnPlace j) (nearest 16 8 (columnOf (now (b .entry)) j)) (now (b .entry)) (now (b .exit)) 208 ⌝ }
 {
     let bytes = column_at(b, j);
     let column = reedsolomon::correct_column_with(
         t,
+        m,
         Column {
             bytes,
             outcome: Outcome::Clean,
@@ -68,8 +70,8 @@ fn repair_column(t: &[u8; 768], j: usize, b: &mut [u8]) -> Outcome
     column.outcome
 }
 
-pub fn repair_columns(t: &[u8; 768], b: &mut [u8]) -> Tally
-    requires { ⌜ LogTable (now t) × (length (now b) ≡ 37856) ⌝ }
+pub fn repair_columns(t: &[u8; 768], m: &[u64; 512], b: &mut [u8]) -> Tally
+    requires { ⌜ LogTable (now t) × (now m ≡ multiples 16) × (length (now b) ≡ 37856) ⌝ }
     ensures { λ r. ⌜ (r ≡ tallyOf 16 8 (columnOf (now (b .entry))) 172) × (now (b .exit) ≡ columnsRepaired (now (b .entry))) ⌝ }
 {
     let mut n = Tally {
@@ -78,7 +80,7 @@ pub fn repair_columns(t: &[u8; 768], b: &mut [u8]) -> Tally
     };
     let mut j: usize = 0;
     while j < 172 {
-        let o = repair_column(t, j, b);
+        let o = repair_column(t, m, j, b);
         n = crate::count_word(n, o);
         j += 1;
     }

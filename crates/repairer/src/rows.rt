@@ -3,6 +3,7 @@ ghost use mathlib.Core.Path.{_≡_};
 ghost use Prim.Native.Nat.{_<_};
 ghost use lib.ListN.{length};
 ghost use Rattle.field.specs.Tables.{LogTable};
+ghost use Rattle.division.specs.Packed.{multiples};
 ghost use Rattle.codes.specs.Nearest.{nearest, outcomeOf};
 ghost use Rattle.eccblock.specs.Stages.{Stored};
 ghost use Rattle.eccblock.specs.Parts.{rowOf};
@@ -37,13 +38,14 @@ fn store_row(w: &[u8; 182], q: usize, b: &mut [u8])
 }
 
 // Row q repaired in its place, and what became of it. A row goes in by value and its tally comes back with it (document 01).
-fn repair_row(t: &[u8; 768], q: usize, b: &mut [u8]) -> Outcome
-    requires { ⌜ LogTable (now t) × (length (now b) ≡ 37856) × (q < 208) ⌝ }
+fn repair_row(t: &[u8; 768], m: &[u64; 512], q: usize, b: &mut [u8]) -> Outcome
+    requires { ⌜ LogTable (now t) × (now m ≡ multiples 10) × (length (now b) ≡ 37856) × (q < 208) ⌝ }
     ensures { λ r. ⌜ (r ≡ outcomeOf 10 5 (rowOf (now (b .entry)) q)) × Stored (rowPlace q) (nearest 10 5 (rowOf (now (b .entry)) q)) (now (b .entry)) (now (b .exit)) 182 ⌝ }
 {
     let bytes = row_at(b, q);
     let row = reedsolomon::correct_row_with(
         t,
+        m,
         Row {
             bytes,
             outcome: Outcome::Clean,
@@ -54,8 +56,8 @@ fn repair_row(t: &[u8; 768], q: usize, b: &mut [u8]) -> Outcome
     row.outcome
 }
 
-pub fn repair_rows(t: &[u8; 768], b: &mut [u8]) -> Tally
-    requires { ⌜ LogTable (now t) × (length (now b) ≡ 37856) ⌝ }
+pub fn repair_rows(t: &[u8; 768], m: &[u64; 512], b: &mut [u8]) -> Tally
+    requires { ⌜ LogTable (now t) × (now m ≡ multiples 10) × (length (now b) ≡ 37856) ⌝ }
     ensures { λ r. ⌜ (r ≡ tallyOf 10 5 (rowOf (now (b .entry))) 208) × (now (b .exit) ≡ rowsRepaired (now (b .entry))) ⌝ }
 {
     let mut n = Tally {
@@ -64,7 +66,7 @@ pub fn repair_rows(t: &[u8; 768], b: &mut [u8]) -> Tally
     };
     let mut q: usize = 0;
     while q < 208 {
-        let o = repair_row(t, q, b);
+        let o = repair_row(t, m, q, b);
         n = crate::count_word(n, o);
         q += 1;
     }

@@ -15,7 +15,7 @@ use Rattle.division.proofs.parity.parity16_with.Tie as tie
 use Rattle.division.proofs.parity.parity16_with.Reads as reads
 use Rattle.division.proofs.parity.parity16_with.Lts as lts
 use Rattle.division.proofs.register.divide.Reads as divide-reads
-use Rattle.division.proofs.parity.unpack.Reads as unpack-reads
+use Rattle.division.proofs.places.unpack.Reads as unpack-reads
 
 -- src/parity.rt:72:9
 divide-requires : tie.Need-divide-requires

@@ -6,7 +6,7 @@ use native.Mathlib.Nat.{pow-le-pow-right}
 use native.Mathlib.Omega.{arith}
 use lib.ListN.{length, getD}
 use borrow.Author.Needs.{needs}
-use Rattle.division.specs.Packed.{number}
+use Rattle.division.specs.Packed.{top, number}
 use Rattle.division.proofs.Numbers.{number-more, number-room}
 use Rattle.division.proofs.received.eight.Statement.{statement}
 use Rattle.division.proofs.received.eight.Tie as tie
@@ -26,7 +26,7 @@ In = lts.In-loop (place-reads.Asked, place-reads.Learnt) reads.Pre reads.Post In
 byte : (c : In) (i : ℕ) → getD (c .before .before .before .args .q .now) i 0 < 256
 byte c i = omega (arith, c .before .before .shared-slice-known .given i)
 
-few : (c : In) → c .before .loop .x < 72057594037927936
+few : (c : In) → c .before .loop .x < top
 few c =
     let l = c .before .loop in
     omega (arith, l .inv .1, number-room (λ k. getD (c .before .before .before .args .q .now) k 0) (byte c) (c .before .before .before .args .a) (l .i) (omega arith))

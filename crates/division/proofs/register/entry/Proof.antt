@@ -7,6 +7,7 @@ use mir.Syntax.{w8, w64}
 use lib.Bits.{bitXor}
 use borrow.Author.Needs.{needs}
 use Rattle.field.specs.Field.{add}
+use Rattle.division.specs.Packed.{top}
 use Rattle.division.proofs.Step.{byte-index}
 use Rattle.division.proofs.register.entry.Statement.{statement}
 use Rattle.division.proofs.register.entry.Tie as tie
@@ -17,15 +18,15 @@ use Rattle.division.proofs.register.wide.Reads as wide-reads
 abbrev At : Type 0
 At = lts.After-wide (wide-reads.Asked, wide-reads.Learnt) reads.Pre reads.Post
 
-small : (c : At) → add (c .before .args .b) (c .before .args .high / 72057594037927936) < 256
+small : (c : At) → add (c .before .args .b) (c .before .args .high / top) < 256
 small c =
     let f : Fits w64 (c .before .args .high) = search needs in
     let g : Fits w8 (c .before .args .b) = search needs in
     byte-index (c .before .args .b) (c .before .args .high) (g .fits) (f .fits)
 
-is : (c : At) → bitXor (c .wide .result) (c .before .args .high / 72057594037927936) ≡ add (c .before .args .b) (c .before .args .high / 72057594037927936)
+is : (c : At) → bitXor (c .wide .result) (c .before .args .high / top) ≡ add (c .before .args .b) (c .before .args .high / top)
 unfolding add
-is c = ap (λ (x : ℕ). bitXor x (c .before .args .high / 72057594037927936)) (c .wide .ensures)
+is c = ap (λ (x : ℕ). bitXor x (c .before .args .high / top)) (c .wide .ensures)
 
 wide-requires : tie.Need-wide-requires
 wide-requires c κs = search needs

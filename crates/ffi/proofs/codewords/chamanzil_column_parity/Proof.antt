@@ -12,8 +12,8 @@ returns c = let a = c .before .before .before .args in first-refused 192 16 (a .
 returns-2 : tie.Need-returns-2
 returns-2 c = let a = c .before .before .before .before .args in second-refused 192 16 (a .word .now) (a .out .now) (parity 16 (a .word .now)) (c .before .if1 .left) (c .if2 .taken)
 
-log-table-requires : tie.Need-log-table-requires
-log-table-requires c κs = search needs
+multiples16-requires : tie.Need-multiples16-requires
+multiples16-requires c κs = search needs
 
 parity16-with-requires : tie.Need-parity16-with-requires
 parity16-with-requires c κs = search needs
@@ -41,7 +41,7 @@ chamanzil-column-parity-spec =
     (tie.spec
     returns
     returns-2
-    log-table-requires
+    multiples16-requires
     parity16-with-requires
     slice-aggregate-copy
     copy-requires

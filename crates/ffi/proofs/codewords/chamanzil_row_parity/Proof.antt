@@ -12,8 +12,8 @@ returns c = let a = c .before .before .before .args in first-refused 172 10 (a .
 returns-2 : tie.Need-returns-2
 returns-2 c = let a = c .before .before .before .before .args in second-refused 172 10 (a .word .now) (a .out .now) (parity 10 (a .word .now)) (c .before .if1 .left) (c .if2 .taken)
 
-log-table-requires : tie.Need-log-table-requires
-log-table-requires c κs = search needs
+multiples10-requires : tie.Need-multiples10-requires
+multiples10-requires c κs = search needs
 
 parity10-with-requires : tie.Need-parity10-with-requires
 parity10-with-requires c κs = search needs
@@ -41,7 +41,7 @@ chamanzil-row-parity-spec =
     (tie.spec
     returns
     returns-2
-    log-table-requires
+    multiples10-requires
     parity10-with-requires
     slice-aggregate-copy
     copy-requires

@@ -11,16 +11,16 @@ use Rattle.repairer.proofs.columns.repair_columns.Statement.{statement}
 use Rattle.repairer.proofs.columns.repair_columns.Tie as tie
 
 abbrev Inv-loop : tie.InvT-loop
-Inv-loop t b₀ n₀ j₀ b n j = (j ≤ 172) × (n ≡ tallyOf 16 8 (columnOf b₀) j) × ColumnsUpto b₀ b j
+Inv-loop t m b₀ n₀ j₀ b n j = (j ≤ 172) × (n ≡ tallyOf 16 8 (columnOf b₀) j) × ColumnsUpto b₀ b j
 
 abbrev μ-loop : tie.MeasureT-loop
-μ-loop t b₀ n₀ j₀ b n j = 172 - j
+μ-loop t m b₀ n₀ j₀ b n j = 172 - j
 
 loop-holds : tie.Need-loop-holds Inv-loop μ-loop
 loop-holds c = (omega arith, tally-none 16 8 _, columns-none _)
 
 repair-column-requires : tie.Need-repair-column-requires Inv-loop μ-loop
-repair-column-requires c κs = (c .before .before .before .before .pre .0, c .before .before .loop .inv .2 .size ∙ c .before .before .before .before .pre .1, omega arith)
+repair-column-requires c κs = (c .before .before .before .before .pre .0, c .before .before .before .before .pre .1, c .before .before .loop .inv .2 .size ∙ c .before .before .before .before .pre .2, omega arith)
 
 count-word-requires : tie.Need-count-word-requires Inv-loop μ-loop
 count-word-requires c κs = let l = c .before .before .before .before .before .loop in tally-small 16 8 (columnOf (c .before .before .before .before .before .before .before .args .b .now)) (l .j) _ (l .inv .1) (omega arith)
@@ -50,7 +50,7 @@ returns : tie.Need-returns Inv-loop μ-loop
 returns c =
     let l = c .before .loop in
     let e : l .j ≡ 172 = omega arith in
-    (rw e at (l .inv .1), columns-all _ (l .b) (c .before .before .before .pre .1) (rw e at (l .inv .2)))
+    (rw e at (l .inv .1), columns-all _ (l .b) (c .before .before .before .pre .2) (rw e at (l .inv .2)))
 
 pub repair-columns-spec : {M : Type 1} → statement M
 repair-columns-spec =

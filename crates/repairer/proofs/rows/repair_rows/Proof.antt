@@ -12,16 +12,16 @@ use Rattle.repairer.proofs.rows.repair_rows.Statement.{statement}
 use Rattle.repairer.proofs.rows.repair_rows.Tie as tie
 
 abbrev Inv-loop : tie.InvT-loop
-Inv-loop t b₀ n₀ q₀ b n q = (q ≤ 208) × (n ≡ tallyOf 10 5 (rowOf b₀) q) × Upto (rowByte b₀) b₀ b (q * 182)
+Inv-loop t m b₀ n₀ q₀ b n q = (q ≤ 208) × (n ≡ tallyOf 10 5 (rowOf b₀) q) × Upto (rowByte b₀) b₀ b (q * 182)
 
 abbrev μ-loop : tie.MeasureT-loop
-μ-loop t b₀ n₀ q₀ b n q = 208 - q
+μ-loop t m b₀ n₀ q₀ b n q = 208 - q
 
 loop-holds : tie.Need-loop-holds Inv-loop μ-loop
 loop-holds c = (omega arith, tally-none 10 5 _, upto-none _ _)
 
 repair-row-requires : tie.Need-repair-row-requires Inv-loop μ-loop
-repair-row-requires c κs = (c .before .before .before .before .pre .0, c .before .before .loop .inv .2 .same ∙ c .before .before .before .before .pre .1, omega arith)
+repair-row-requires c κs = (c .before .before .before .before .pre .0, c .before .before .before .before .pre .1, c .before .before .loop .inv .2 .same ∙ c .before .before .before .before .pre .2, omega arith)
 
 count-word-requires : tie.Need-count-word-requires Inv-loop μ-loop
 count-word-requires c κs = let l = c .before .before .before .before .before .loop in tally-small 10 5 (rowOf (c .before .before .before .before .before .before .before .args .b .now)) (l .q) _ (l .inv .1) (omega arith)
@@ -38,10 +38,10 @@ loop-again c =
     let old = s .args .b .now in
     let l = c .before .before .before .before .before .before .loop in
     let r = c .before .before .before .repair-row .ensures in
-    let o = r .0 ∙ ap (outcomeOf 10 5) (row-same old (l .b) (l .q) (s .pre .1) (omega arith) (l .inv .2)) in (
+    let o = r .0 ∙ ap (outcomeOf 10 5) (row-same old (l .b) (l .q) (s .pre .2) (omega arith) (l .inv .2)) in (
       omega arith,
       c .count-word .ensures ∙ tally-more 10 5 (rowOf old) (l .q) _ _ (l .inv .1) o,
-      rows-more old (l .b) (l .q) (s .pre .1) (omega arith) (l .inv .2) _ (r .1),
+      rows-more old (l .b) (l .q) (s .pre .2) (omega arith) (l .inv .2) _ (r .1),
     )
 
 same-length : tie.Need-same-length Inv-loop μ-loop
@@ -51,7 +51,7 @@ returns : tie.Need-returns Inv-loop μ-loop
 returns c =
     let l = c .before .loop in
     let e : l .q ≡ 208 = omega arith in
-    (rw e at (l .inv .1), rows-all _ (l .b) (c .before .before .before .pre .1) (rw e at (l .inv .2)))
+    (rw e at (l .inv .1), rows-all _ (l .b) (c .before .before .before .pre .2) (rw e at (l .inv .2)))
 
 pub repair-rows-spec : {M : Type 1} → statement M
 repair-rows-spec =

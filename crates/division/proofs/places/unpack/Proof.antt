@@ -1,12 +1,12 @@
--- `parity::unpack` meets its contract. Assumes nothing.
+-- `places::unpack` meets its contract. Assumes nothing.
 use Rattle.lists.specs.Fill.{tabulateFrom}
 use Rattle.division.specs.Packed.{byteOf, unpacked}
 use borrow.Author.Needs.{needs}
-use Rattle.division.proofs.parity.unpack.Statement.{statement}
-use Rattle.division.proofs.parity.unpack.Tie as tie
-use Rattle.division.proofs.parity.unpack.Reads as reads
-use Rattle.division.proofs.parity.unpack.Lts as lts
-use Rattle.division.proofs.parity.byte.Reads as byte-reads
+use Rattle.division.proofs.places.unpack.Statement.{statement}
+use Rattle.division.proofs.places.unpack.Tie as tie
+use Rattle.division.proofs.places.unpack.Reads as reads
+use Rattle.division.proofs.places.unpack.Lts as lts
+use Rattle.division.proofs.places.byte.Reads as byte-reads
 
 -- src/parity.rt:40:9
 byte-requires : tie.Need-byte-requires
