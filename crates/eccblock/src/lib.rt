@@ -149,10 +149,10 @@ fn fill_block(main: &[u8], first: u32, info: u8, out: &mut [u8])
     ensures { λ r. ⌜ now (out .exit) ≡ block (now (main .entry)) first info ⌝ }
 {
     let t = field::log_table();
-    store_frames(&t, main, first, info, out);
     let outer = division::multiples16();
-    add_outer(&outer, out);
     let inner = division::multiples10();
+    store_frames(&t, main, first, info, out);
+    add_outer(&outer, out);
     add_inner(&inner, out);
 }
 

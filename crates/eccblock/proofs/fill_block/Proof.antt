@@ -7,17 +7,17 @@ use Rattle.eccblock.proofs.fill_block.Tie as tie
 log-table-requires : tie.Need-log-table-requires
 log-table-requires c κs = search needs
 
-store-frames-requires : tie.Need-store-frames-requires
-store-frames-requires c κs = search needs
-
 multiples16-requires : tie.Need-multiples16-requires
 multiples16-requires c κs = search needs
 
-add-outer-requires : tie.Need-add-outer-requires
-add-outer-requires c κs = search needs
-
 multiples10-requires : tie.Need-multiples10-requires
 multiples10-requires c κs = search needs
+
+store-frames-requires : tie.Need-store-frames-requires
+store-frames-requires c κs = search needs
+
+add-outer-requires : tie.Need-add-outer-requires
+add-outer-requires c κs = search needs
 
 add-inner-requires : tie.Need-add-inner-requires
 add-inner-requires c κs = search needs
@@ -28,7 +28,7 @@ same-length c = search needs
 returns : tie.Need-returns
 returns c =
     let a = c .before .before .before .before .before .before .before .before .before .before .before .before .before .before .before .before .before .before .before .before .args in
-    let v = c .before .before .before .before .before .before .before .before .add-outer .ensures .1 (a .main .now) (a .first) (a .info) (c .before .before .before .before .before .before .before .before .before .before .before .before .before .before .store-frames .ensures) in
+    let v = c .before .before .before .before .before .before .before .add-outer .ensures .1 (a .main .now) (a .first) (a .info) (c .before .before .before .before .before .before .before .before .before .before .before .before .store-frames .ensures) in
     rows-all (a .main .now) (a .first) (a .info) _
     (c .before .before .add-inner .ensures .1 (a .main .now) (a .first) (a .info) (rows-none (a .main .now) (a .first) (a .info) _ v))
 
@@ -37,10 +37,10 @@ fill-block-spec =
     tie.close
     (tie.spec
     log-table-requires
-    store-frames-requires
     multiples16-requires
-    add-outer-requires
     multiples10-requires
+    store-frames-requires
+    add-outer-requires
     add-inner-requires
     same-length
     returns)
