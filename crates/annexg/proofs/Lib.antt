@@ -3,5 +3,3 @@ pub mod Figure
 pub mod Unique
 pub mod Sync
 pub mod Stands
-pub mod IndexSteps
-pub mod Index

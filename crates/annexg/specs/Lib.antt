@@ -2,4 +2,3 @@ pub mod Tables
 pub mod Read
 pub mod Runs
 pub mod Sync
-pub mod Index

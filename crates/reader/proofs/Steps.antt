@@ -7,7 +7,7 @@ use Prim.Native.Nat.{ℕ, _+_, _*_, _/_, _%_}
 use native.Mathlib.Omega.{arith}
 use Rattle.lists.specs.Count.{bit}
 use Rattle.annexg.specs.Read.{readWord}
-use Rattle.annexg.specs.Index.{readingNumber}
+use Rattle.wordindex.specs.Index.{readingNumber}
 use Rattle.annexg.specs.declared.Reading.{Reading}
 use Rattle.annexg.specs.declared.Reading.the-variants.{Byte, Unknown}
 use Rattle.channel.specs.Block.{codeOf, byteOf, halfOf, halfAt, readAt}

@@ -5,7 +5,7 @@ ghost use Prim.Native.Nat.{_+_, _*_, _≤_};
 ghost use lib.ListN.{length};
 ghost use Rattle.lists.specs.Count.{bit};
 ghost use Rattle.annexg.specs.Read.{tableOf};
-ghost use Rattle.annexg.specs.Index.{wordIndex};
+ghost use Rattle.wordindex.specs.Index.{wordIndex};
 ghost use Rattle.annexg.specs.Sync.{syncTable};
 ghost use Rattle.channel.specs.Block.{frameCodes, codeOf, halfAt, readSector};
 ghost use Rattle.reader.specs.Sector.{isSync, lostSync, unknownTally, syncTally, sectorAnswer, sectorAfter, sectorNumber};
@@ -49,7 +49,7 @@ fn read_bytes(
         let k = i + 2 * (i / 91) + 2;
         let w = half(stream, k);
         let f = half(stream, k + 1);
-        let r = annexg::read_indexed(m, u, x, w, f);
+        let r = wordindex::read_indexed(m, u, x, w, f);
         out[i] = (r / 2) as u8;
         unknown += r % 2;
         i += 1;
@@ -185,7 +185,7 @@ pub fn read_sector(stream: &[u8], out: &mut [u8]) -> SectorRead
 {
     let m = annexg::main_table();
     let u = annexg::sub_table();
-    let x = annexg::word_index(&m, &u);
+    let x = wordindex::word_index(&m, &u);
     let y = annexg::sync_table();
     read_sector_with(&m, &u, &x, &y, stream, out)
 }

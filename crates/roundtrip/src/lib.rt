@@ -3,7 +3,7 @@ ghost use mathlib.Core.Path.{_≡_};
 ghost use Prim.Native.Nat.{_+_, _<_, _≤_};
 ghost use lib.ListN.{length};
 ghost use Rattle.annexg.specs.Read.{tableOf};
-ghost use Rattle.annexg.specs.Index.{wordIndex};
+ghost use Rattle.wordindex.specs.Index.{wordIndex};
 ghost use Rattle.annexg.specs.Sync.{syncTable};
 ghost use Rattle.channel.specs.Block.{readBlock};
 ghost use Rattle.reader.specs.Sector.{unknownTally, syncTally};
@@ -59,7 +59,7 @@ fn read_sectors(stream: &[u8], block: &mut [u8]) -> Sums
 {
     let m = annexg::main_table();
     let u = annexg::sub_table();
-    let x = annexg::word_index(&m, &u);
+    let x = wordindex::word_index(&m, &u);
     let y = annexg::sync_table();
     let mut s = Sums {
         unknown: 0,

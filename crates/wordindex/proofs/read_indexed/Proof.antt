@@ -1,16 +1,16 @@
--- `annexg::read_indexed` meets its contract: what a slot holds is what the search finds. Assumes nothing.
+-- `wordindex::read_indexed` meets its contract: what a slot holds is what the search finds. Assumes nothing.
 use mathlib.Core.Path.{_≡_, sym, ap, _∙_}
 use mathlib.Core.Bool.{Bool}
 use mathlib.Core.List.{List}
 use Prim.Native.Nat.{ℕ, _+_, _*_, _/_, _%_}
 use lib.ListN.{getD}
 use Rattle.annexg.specs.Read.{readGiven, bothZero}
-use Rattle.annexg.specs.Index.{slotOf, wordIndex, readingNumber}
-use Rattle.annexg.proofs.Index.{index-reads}
+use Rattle.wordindex.specs.Index.{slotOf, wordIndex, readingNumber}
+use Rattle.wordindex.proofs.Index.{index-reads}
 use native.Mathlib.Omega.{arith}
 use borrow.Author.Needs.{needs}
-use Rattle.annexg.proofs.read_indexed.Statement.{statement}
-use Rattle.annexg.proofs.read_indexed.Tie as tie
+use Rattle.wordindex.proofs.read_indexed.Statement.{statement}
+use Rattle.wordindex.proofs.read_indexed.Tie as tie
 
 -- slot i of the index xs holds the word w
 found : (w f : ℕ) (z : Bool) (i : ℕ) (xs : List ℕ) → xs ≡ wordIndex → z ≡ bothZero f → i ≡ slotOf w z → getD xs i 0 / 256 ≡ 65536 + w → getD xs i 0 % 256 * 2 ≡ readingNumber (readGiven w (bothZero f))

@@ -1,9 +1,9 @@
--- `annexg::put_one` meets its contract. Assumes nothing.
+-- `wordindex::put_one` meets its contract. Assumes nothing.
 use mathlib.Core.Path.{sym, _∙_}
-use Rattle.annexg.proofs.IndexSteps.{slot-taken, slot-left}
+use Rattle.wordindex.proofs.IndexSteps.{slot-taken, slot-left}
 use borrow.Author.Needs.{needs}
-use Rattle.annexg.proofs.put_one.Statement.{statement}
-use Rattle.annexg.proofs.put_one.Tie as tie
+use Rattle.wordindex.proofs.put_one.Statement.{statement}
+use Rattle.wordindex.proofs.put_one.Tie as tie
 
 agrees-with-requires : tie.Need-agrees-with-requires
 agrees-with-requires c κs = search needs

@@ -14,12 +14,12 @@ use borrow.Author.Tests.{eq-eqb, le-leb, lt-leb}
 use Rattle.lists.specs.Count.{bit}
 use Rattle.lists.specs.Test.{every}
 use Rattle.lists.proofs.Test.{and-left, truth, truth-of, every-at}
 use Rattle.annexg.specs.Read.{tableOf, agrees, fitsOf, readGiven, bothZero, StandsFor}
 use Rattle.annexg.specs.Tables.{mainTable, subTable}
-use Rattle.annexg.specs.Index.{placeOf, slotOf, slotHolds, putOne, putEntry, putFirst, putAll, wordIndex}
+use Rattle.wordindex.specs.Index.{placeOf, slotOf, slotHolds, putOne, putEntry, putFirst, putAll, wordIndex}
 use Rattle.annexg.proofs.Search.{each-table, in-table, length-main, length-sub}
 use Rattle.annexg.proofs.Unique.{Tree, leaf, put, get, one-byte, reads-fit}
 use Rattle.annexg.specs.declared.Reading.the-variants.{Byte}
 
 -- ---- the slots
 

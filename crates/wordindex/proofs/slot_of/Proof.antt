@@ -1,9 +1,9 @@
--- `annexg::slot_of` meets its contract. Assumes nothing.
+-- `wordindex::slot_of` meets its contract. Assumes nothing.
 use native.Mathlib.Omega.{arith}
-use Rattle.annexg.specs.Index.{placeOf}
+use Rattle.wordindex.specs.Index.{placeOf}
 use borrow.Author.Needs.{needs}
-use Rattle.annexg.proofs.slot_of.Statement.{statement}
-use Rattle.annexg.proofs.slot_of.Tie as tie
+use Rattle.wordindex.proofs.slot_of.Statement.{statement}
+use Rattle.wordindex.proofs.slot_of.Tie as tie
 
 mul-result : tie.Need-mul-result
 mul-result c = search needs

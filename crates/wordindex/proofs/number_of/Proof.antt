@@ -1,10 +1,10 @@
--- `annexg::number_of` meets its contract. Assumes nothing.
+-- `wordindex::number_of` meets its contract. Assumes nothing.
 use mathlib.Core.Path.{sym, ap}
-use Rattle.annexg.specs.Index.{readingNumber}
+use Rattle.wordindex.specs.Index.{readingNumber}
 use native.Mathlib.Omega.{arith}
 use borrow.Author.Needs.{needs}
-use Rattle.annexg.proofs.number_of.Statement.{statement}
-use Rattle.annexg.proofs.number_of.Tie as tie
+use Rattle.wordindex.proofs.number_of.Statement.{statement}
+use Rattle.wordindex.proofs.number_of.Tie as tie
 
 enum-known-r : tie.Need-enum-known-r
 enum-known-r c = search needs

@@ -7,8 +7,8 @@ use Prim.Native.Nat.{ℕ, zero, suc, _+_, _*_, _/_, _%_, _≤_}
 use native.Mathlib.Numerals.{add-one}
 use native.Mathlib.Omega.{arith}
 use lib.ListN.{length, getD, set}
 use Rattle.annexg.specs.Read.{agrees}
-use Rattle.annexg.specs.Index.{slotOf, slotHolds, putOne, putEntry, putFirst, putAll}
+use Rattle.wordindex.specs.Index.{slotOf, slotHolds, putOne, putEntry, putFirst, putAll}
 
 module _ (z : Bool) (b e : ℕ) (xs : List ℕ) where
   pub slot-taken : (i : ℕ) → agrees (e % 16) z ≡ true → i ≡ slotOf (e / 16) z → set xs i ((65536 + e / 16) * 256 + b) ≡ putOne z b e xs

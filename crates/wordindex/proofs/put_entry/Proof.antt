@@ -1,8 +1,8 @@
--- `annexg::put_entry` meets its contract. Assumes nothing.
-use Rattle.annexg.proofs.IndexSteps.{both-put}
+-- `wordindex::put_entry` meets its contract. Assumes nothing.
+use Rattle.wordindex.proofs.IndexSteps.{both-put}
 use borrow.Author.Needs.{needs}
-use Rattle.annexg.proofs.put_entry.Statement.{statement}
-use Rattle.annexg.proofs.put_entry.Tie as tie
+use Rattle.wordindex.proofs.put_entry.Statement.{statement}
+use Rattle.wordindex.proofs.put_entry.Tie as tie
 
 put-one-requires : tie.Need-put-one-requires
 put-one-requires c κs = search needs

@@ -1,12 +1,12 @@
--- `annexg::put_table` meets its contract: the entries before k have taken their slots. Assumes nothing.
+-- `wordindex::put_table` meets its contract: the entries before k have taken their slots. Assumes nothing.
 use mathlib.Core.Path.{_≡_, refl}
 use Prim.Native.Nat.{_-_, _≤_}
 use native.Mathlib.Omega.{arith}
 use lib.ListN.{length}
-use Rattle.annexg.specs.Index.{putFirst}
-use Rattle.annexg.proofs.IndexSteps.{none-put, more-put, all-put}
-use Rattle.annexg.proofs.put_table.Statement.{statement}
-use Rattle.annexg.proofs.put_table.Tie as tie
+use Rattle.wordindex.specs.Index.{putFirst}
+use Rattle.wordindex.proofs.IndexSteps.{none-put, more-put, all-put}
+use Rattle.wordindex.proofs.put_table.Statement.{statement}
+use Rattle.wordindex.proofs.put_table.Tie as tie
 
 abbrev Inv-loop : tie.InvT-loop
 Inv-loop es x₀ k₀ x k = (k ≤ length es) × (x ≡ putFirst es k x₀)

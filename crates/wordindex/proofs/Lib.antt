@@ -1,0 +1,2 @@
+pub mod IndexSteps
+pub mod Index
