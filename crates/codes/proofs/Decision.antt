@@ -1,7 +1,7 @@
 -- The repair, decided by whether the mended word is a code word: what comes out is the nearest code word within t bytes, or the word where there is none.
 -- Assumes nothing.
-use mathlib.Core.Path.{_≡_, refl, sym, ap, ap₂, _∙_, subst}
-use mathlib.Core.Bool.{Bool, true, false, false≢true}
+use mathlib.Core.Path.{_≡_, sym, ap, _∙_, subst}
+use mathlib.Core.Bool.{true, false, false≢true}
 use mathlib.Core.List.{List}
 use Prim.Native.Nat.{ℕ, _+_, _<_, _≤_}
 use native.Mathlib.Omega.{arith}
@@ -14,10 +14,10 @@ use Rattle.lists.proofs.Fill.{getD-tabulate}
 use Rattle.lists.proofs.Test.{truth, truth-of}
 use Rattle.codes.specs.Word.{syndrome, isCode}
 use Rattle.codes.specs.Nearest.{nearest, outcomeOf}
-use Rattle.codes.specs.Decoding.{at, Locator, NonZero, rootPlaces, mended}
+use Rattle.codes.specs.Decoding.{at, Locator, rootPlaces, mended}
 use Rattle.codes.specs.declared.Outcome.{Outcome}
 use Rattle.codes.specs.declared.Outcome.the-variants.{Clean, Corrected, Uncorrectable}
-use Rattle.codes.proofs.Words.{IsCode, code-of-test, test-of-code}
+use Rattle.codes.proofs.Words.{code-of-test, test-of-code}
 use Rattle.codes.proofs.Roots.{roots-few, lead-nonzero}
 use Rattle.codes.proofs.Values.{roots-descending, descending-at}
 use Rattle.codes.proofs.Mended.{mended-near, mended-length, mended-bytes, mended-distance}

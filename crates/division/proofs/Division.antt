@@ -1,7 +1,7 @@
 -- A word divided byte by byte, and registers side by side.
 -- Assumes nothing.
-use mathlib.Core.Path.{_≡_, refl, sym, ap, ap₂, _∙_, subst}
-use mathlib.Core.List.{List, [], _∷_, _++_, map}
+use mathlib.Core.Path.{_≡_, refl, sym, ap, _∙_, subst}
+use mathlib.Core.List.{List, [], _∷_}
 use mathlib.Core.Logic.{dite}
 use Prim.Native.Nat.{ℕ, zero, suc, _+_, _*_, _-_, _/_, _%_, _<_, _≤_}
 use native.Mathlib.Nat.{le-of-suc-le-suc}
@@ -12,9 +12,9 @@ use lib.ListN.{length, getD, set, take, replicate, length-set, length-replicate}
 use lib.Seq.{getD-set-same, getD-set-other, take-all}
 use Rattle.lists.specs.Bytes.{Bytes}
 use Rattle.lists.proofs.Bytes.{zeros-bytes}
-use Rattle.field.specs.Field.{add, mul}
+use Rattle.field.specs.Field.{add}
 use Rattle.codes.specs.Parity.{shiftIn, remainder, generatorTail, parity}
-use Rattle.division.specs.Packed.{top, number, high, low, multiples, Packed, Beside}
+use Rattle.division.specs.Packed.{top, high, low, multiples, Packed, Beside}
 use Rattle.division.proofs.Numbers.{number-zeros}
 use Rattle.division.proofs.Step.{packed-next}
 

@@ -9,12 +9,11 @@ use native.Mathlib.Omega.{arith}
 use native.Mathlib.Decide.{ℕ-discrete}
 use lib.ListN.{length, getD, length-map, length-append, length-drop, List·getD-eq-default}
 use Rattle.lists.specs.Bytes.{Bytes}
-use Rattle.lists.specs.Fill.{tabulate}
 use Rattle.lists.proofs.Bytes.{getD-byte}
-use Rattle.lists.proofs.Fill.{length-tabulate, getD-tabulate}
+use Rattle.lists.proofs.Fill.{getD-tabulate}
 use Rattle.field.specs.Field.{add, mul, pow}
 use Rattle.field.proofs.Field.{add-zero, add-lt, mul-zero, mul-lt}
-use Rattle.codes.specs.Parity.{addWords, timesRoot, shiftIn, remainder, generator, generatorTail}
+use Rattle.codes.specs.Parity.{timesRoot, shiftIn, remainder, generator, generatorTail}
 use Rattle.codes.proofs.Words.{addWords-length}
 use Rattle.codes.proofs.Division.{remainder-bytes}
 use Rattle.codes.proofs.Shift.{shiftAt, shift-is, shift-size, map-at}

@@ -1,11 +1,11 @@
 -- A received word by what is left of it: its syndromes are those of the remainder, and it is a code word exactly where the remainder is zeros. For any number of
 -- roots of which the generator is known to be right, and words of any length.
 -- Assumes nothing.
-use mathlib.Core.Path.{_≡_, refl, sym, ap, ap₂, _∙_, subst}
+use mathlib.Core.Path.{_≡_, refl, sym, ap, ap₂, _∙_}
 use mathlib.Core.Bool.{Bool, true, false, false≢true, _&&_}
-use mathlib.Core.List.{List, [], _∷_, _++_, map}
+use mathlib.Core.List.{List, [], _∷_, _++_}
 use mathlib.Core.Logic.{dite}
-use Prim.Native.Nat.{ℕ, zero, suc, _+_, _*_, _-_, _<_, _≤_}
+use Prim.Native.Nat.{ℕ, zero, suc, _+_, _-_, _<_, _≤_}
 use native.Mathlib.Decide.{ℕ-discrete}
 use native.Mathlib.Omega.{arith}
 use lib.ListN.{length, getD, take, drop, replicate, length-append, length-drop, length-replicate, take-append-drop, List·getD-eq-default}
@@ -14,7 +14,7 @@ use lib.Dec.{eqb, eqb→eq}
 use borrow.Author.Tests.{eq-eqb}
 use Rattle.lists.proofs.Test.{truth, truth-of}
 use Rattle.lists.specs.Bytes.{Bytes}
-use Rattle.lists.proofs.Bytes.{getD-byte, take-bytes, drop-bytes, append-bytes, zeros-bytes}
+use Rattle.lists.proofs.Bytes.{getD-byte, take-bytes, drop-bytes, zeros-bytes}
 use Rattle.field.specs.Field.{add, mul, pow}
 use Rattle.field.proofs.Field.{add-zero, zero-add, add-cancel, mul-comm, zero-of-mul}
 use Rattle.field.proofs.Powers.{pow-lt, pow-nonzero, alpha-lt, alpha-nonzero}

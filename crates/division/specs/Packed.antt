@@ -1,9 +1,10 @@
--- A register of at most 16 bytes in two numbers of 64 bits, its first byte highest. The generators of the inner and the outer code have 10 and 16 bytes after
--- their first coefficient, so that one piece of code divides by both: with 10, the last six places stay ZERO.
+-- The vocabulary of the inner contracts of long division, and the rule of its two tables (`multiples`). No contract of an entry point cites it.
+-- A register of at most 16 bytes stands in two numbers of 64 bits, its first byte highest. The generators of the inner and the outer code have 10 and 16 bytes
+-- after their first coefficient, so that one piece of code divides by both: with 10, the last six places stay ZERO.
 -- Assumes nothing.
 use mathlib.Core.List.{List, _++_, map}
 use mathlib.Core.Path.{_≡_}
-use Prim.Native.Nat.{ℕ, zero, suc, _+_, _*_, _/_, _%_, _^_, _-_, _<_, _≤_}
+use Prim.Native.Nat.{ℕ, zero, suc, _+_, _*_, _/_, _%_, _^_, _-_, _<_}
 use lib.ListN.{length, getD, take, drop}
 use Rattle.lists.specs.Bytes.{Bytes}
 use Rattle.lists.specs.Fill.{tabulate}

@@ -1,6 +1,6 @@
 // The bytes of a packed register.
 ghost use mathlib.Core.Path.{_≡_};
-ghost use Prim.Native.Nat.{ℕ, _/_, _%_, _^_, _<_};
+ghost use Prim.Native.Nat.{_/_, _%_, _^_, _<_};
 ghost use Rattle.division.specs.Packed.{unpacked};
 
 // One byte of a number, with k bits after it.

@@ -1,7 +1,7 @@
 // What is left of a received word by the generator: ZERO exactly where it is a code word, and else all that the repair needs to know of it.
 ghost use mathlib.Core.Bool.{_&&_};
 ghost use mathlib.Core.Path.{_≡_};
-ghost use Prim.Native.Nat.{ℕ, _≤_};
+ghost use Prim.Native.Nat.{_≤_};
 ghost use lib.Dec.{eqb};
 ghost use lib.ListN.{length, getD};
 ghost use Rattle.division.specs.Packed.{number, high, low, multiples, remainderOf};

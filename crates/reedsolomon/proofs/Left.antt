@@ -1,14 +1,14 @@
 -- What is left of a received word tells whether it is a code word, and gives its syndromes.
 -- Assumes nothing.
-use mathlib.Core.Path.{_≡_, refl, sym, ap, ap₂, _∙_}
-use mathlib.Core.Bool.{Bool, true, _&&_}
+use mathlib.Core.Path.{_≡_, sym, ap, ap₂, _∙_}
+use mathlib.Core.Bool.{Bool, _&&_}
 use mathlib.Core.List.{List}
-use Prim.Native.Nat.{ℕ, _+_, _<_, _≤_}
+use Prim.Native.Nat.{ℕ, _+_, _≤_}
 use native.Mathlib.Omega.{arith}
 use lib.Dec.{eqb}
 use lib.ListN.{length, take}
 use Rattle.lists.specs.Bytes.{Bytes}
-use Rattle.lists.specs.Fill.{tabulateFrom, tabulate}
+use Rattle.lists.specs.Fill.{tabulate}
 use Rattle.lists.proofs.Fill.{tabulate-same}
 use Rattle.lists.proofs.Test.{truth}
 use Rattle.codes.specs.Word.{syndrome, isCode}
@@ -17,9 +17,9 @@ use Rattle.codes.specs.Nearest.{nearest, outcomeOf}
 use Rattle.codes.specs.declared.Outcome.the-variants.{Clean}
 use Rattle.codes.proofs.Words.{test-of-code}
 use Rattle.codes.proofs.Division.{Code, sixteen-roots}
-use Rattle.codes.proofs.Decision.{Repaired, clean}
+use Rattle.codes.proofs.Decision.{clean}
 use Rattle.division.specs.Packed.{high, low, unpacked, Packed, remainderOf}
-use Rattle.division.proofs.Unpacked.{unpacked-register, unpacked-whole}
+use Rattle.division.proofs.Unpacked.{unpacked-register}
 use Rattle.division.proofs.Words.{left-length, left-bytes, left-syndrome, code-test, divided-code}
 
 module _ (p : ℕ) (c : Code p) (few : p ≤ 16) (w : List ℕ) (hw : Bytes w) (le : p ≤ length w) (h l : ℕ) (e : (h ≡ high (remainderOf p w)) × (l ≡ low (remainderOf p w))) where

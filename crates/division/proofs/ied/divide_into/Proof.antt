@@ -5,7 +5,7 @@ use Prim.Native.Nat.{ℕ, _≤_, _-_, _+_}
 use native.Mathlib.Omega.{arith}
 use lib.ListN.{length, getD, drop}
 use borrow.Author.Needs.{needs}
-use Rattle.codes.specs.Parity.{shiftIn, remainder}
+use Rattle.codes.specs.Parity.{remainder}
 use Rattle.codes.proofs.Shift.{shift-size, remainder-next, remainder-end}
 use Rattle.division.proofs.ied.divide_into.Statement.{statement}
 use Rattle.division.proofs.ied.divide_into.Tie as tie

@@ -7,8 +7,7 @@ use Prim.Native.Nat.{ℕ, _≤_, _-_, _+_}
 use native.Mathlib.Omega.{arith}
 use lib.ListN.{length}
 use borrow.Author.Needs.{needs}
-use Rattle.field.specs.Field.{add, mul}
-use Rattle.codes.specs.Parity.{shiftIn}
+use Rattle.field.specs.Field.{add}
 use Rattle.lists.proofs.Fill.{Upto, upto-none, upto-more, upto-all}
 use Rattle.codes.proofs.Shift.{shiftAt, shift-is}
 use Rattle.division.proofs.ied.shift_in.Statement.{statement}

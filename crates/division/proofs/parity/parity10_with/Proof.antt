@@ -8,14 +8,10 @@ use Rattle.lists.specs.Bytes.{Bytes}
 use Rattle.codes.specs.Parity.{parity}
 use Rattle.codes.proofs.Division.{ten-roots, parity-length, parity-bytes}
 use Rattle.division.specs.Packed.{unpacked}
-use Rattle.division.proofs.Unpacked.{unpacked-register, unpacked-whole}
+use Rattle.division.proofs.Unpacked.{unpacked-register}
 use borrow.Author.Needs.{needs}
 use Rattle.division.proofs.parity.parity10_with.Statement.{statement}
 use Rattle.division.proofs.parity.parity10_with.Tie as tie
-use Rattle.division.proofs.parity.parity10_with.Reads as reads
-use Rattle.division.proofs.parity.parity10_with.Lts as lts
-use Rattle.division.proofs.register.divide.Reads as divide-reads
-use Rattle.division.proofs.parity.unpack10.Reads as unpack10-reads
 
 -- src/parity.rt:64:9
 divide-requires : tie.Need-divide-requires

@@ -3,19 +3,15 @@ use mathlib.Core.Path.{_≡_, ap₂, _∙_}
 use mathlib.Core.List.{List}
 use Prim.Native.Nat.{ℕ}
 use native.Mathlib.Omega.{arith}
-use lib.ListN.{length, take}
+use lib.ListN.{length}
 use Rattle.lists.specs.Bytes.{Bytes}
 use Rattle.codes.specs.Parity.{parity}
 use Rattle.codes.proofs.Division.{sixteen-roots, parity-length, parity-bytes}
 use Rattle.division.specs.Packed.{unpacked}
-use Rattle.division.proofs.Unpacked.{unpacked-register, unpacked-whole}
+use Rattle.division.proofs.Unpacked.{unpacked-whole}
 use borrow.Author.Needs.{needs}
 use Rattle.division.proofs.parity.parity16_with.Statement.{statement}
 use Rattle.division.proofs.parity.parity16_with.Tie as tie
-use Rattle.division.proofs.parity.parity16_with.Reads as reads
-use Rattle.division.proofs.parity.parity16_with.Lts as lts
-use Rattle.division.proofs.register.divide.Reads as divide-reads
-use Rattle.division.proofs.places.unpack.Reads as unpack-reads
 
 -- src/parity.rt:72:9
 divide-requires : tie.Need-divide-requires

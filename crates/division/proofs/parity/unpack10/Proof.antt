@@ -4,9 +4,6 @@ use Rattle.division.specs.Packed.{byteOf, unpacked}
 use borrow.Author.Needs.{needs}
 use Rattle.division.proofs.parity.unpack10.Statement.{statement}
 use Rattle.division.proofs.parity.unpack10.Tie as tie
-use Rattle.division.proofs.parity.unpack10.Reads as reads
-use Rattle.division.proofs.parity.unpack10.Lts as lts
-use Rattle.division.proofs.places.byte.Reads as byte-reads
 
 -- src/parity.rt:22:9
 byte-requires : tie.Need-byte-requires

@@ -4,9 +4,6 @@ use Rattle.division.specs.Packed.{byteOf, unpacked}
 use borrow.Author.Needs.{needs}
 use Rattle.division.proofs.places.unpack.Statement.{statement}
 use Rattle.division.proofs.places.unpack.Tie as tie
-use Rattle.division.proofs.places.unpack.Reads as reads
-use Rattle.division.proofs.places.unpack.Lts as lts
-use Rattle.division.proofs.places.byte.Reads as byte-reads
 
 -- src/parity.rt:40:9
 byte-requires : tie.Need-byte-requires

@@ -1,10 +1,7 @@
 -- `received::is_zero` meets its contract. Assumes nothing.
-use mathlib.Core.Path.{_≡_, refl}
 use borrow.Author.Tests.{eq-eqb, ne-eqb}
 use Rattle.division.proofs.received.is_zero.Statement.{statement}
 use Rattle.division.proofs.received.is_zero.Tie as tie
-use Rattle.division.proofs.received.is_zero.Reads as reads
-use Rattle.division.proofs.received.is_zero.Lts as lts
 
 -- src/received.rt:54:9
 returns : tie.Need-returns

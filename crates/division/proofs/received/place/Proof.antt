@@ -5,8 +5,6 @@ use lib.ListN.{List·getD-eq-default}
 use borrow.Author.Needs.{needs}
 use Rattle.division.proofs.received.place.Statement.{statement}
 use Rattle.division.proofs.received.place.Tie as tie
-use Rattle.division.proofs.received.place.Reads as reads
-use Rattle.division.proofs.received.place.Lts as lts
 
 shared-slice-read-result : tie.Need-shared-slice-read-result
 shared-slice-read-result c = search needs

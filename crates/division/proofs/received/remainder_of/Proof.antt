@@ -1,7 +1,7 @@
 -- `received::remainder_of` meets its contract. Assumes nothing.
-use mathlib.Core.Path.{_≡_, refl, sym, ap, ap₂, _∙_}
+use mathlib.Core.Path.{_≡_, sym, ap, ap₂, _∙_}
 use mathlib.Core.List.{List}
-use Prim.Native.Nat.{ℕ, _-_, _≤_}
+use Prim.Native.Nat.{ℕ, _-_}
 use native.Mathlib.Omega.{arith}
 use lib.ListN.{length, take, drop, length-drop}
 use lib.Seq.{length-take-le, take-all}
@@ -14,10 +14,6 @@ use Rattle.division.proofs.Words.{left-high, left-low}
 use borrow.Author.Needs.{needs}
 use Rattle.division.proofs.received.remainder_of.Statement.{statement}
 use Rattle.division.proofs.received.remainder_of.Tie as tie
-use Rattle.division.proofs.received.remainder_of.Reads as reads
-use Rattle.division.proofs.received.remainder_of.Lts as lts
-use Rattle.division.proofs.register.divide.Reads as divide-reads
-use Rattle.division.proofs.received.eight.Reads as eight-reads
 
 -- src/received.rt:38:13
 sub-n : tie.Need-sub-n

@@ -1,18 +1,11 @@
 -- `register::divide` meets its contract. Assumes nothing.
-use mathlib.Core.Path.{_≡_, refl, sym, ap, _∙_}
-use Prim.Native.Nat.{ℕ, _+_, _*_, _-_, _/_, _%_, _<_, _≤_}
+use mathlib.Core.Path.{refl}
+use Prim.Native.Nat.{_-_, _≤_}
 use native.Mathlib.Omega.{arith}
 use lib.ListN.{length, getD}
-use borrow.Author.Needs.{needs}
-use Rattle.field.specs.Field.{add}
 use Rattle.division.proofs.Division.{Divided, divided-none, divided-more, divided-all}
 use Rattle.division.proofs.register.divide.Statement.{statement}
 use Rattle.division.proofs.register.divide.Tie as tie
-use Rattle.division.proofs.register.divide.Reads as reads
-use Rattle.division.proofs.register.divide.Lts as lts
-use Rattle.division.proofs.register.entry.Reads as entry-reads
-use Rattle.division.proofs.register.moved_high.Reads as moved-high-reads
-use Rattle.division.proofs.register.moved_low.Reads as moved-low-reads
 
 abbrev Inv-loop : tie.InvT-loop
 Inv-loop m d high₀ low₀ i₀ high low i = (i ≤ length d) × Divided m d i high low

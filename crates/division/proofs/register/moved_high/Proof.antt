@@ -1,5 +1,5 @@
 -- `register::moved_high` meets its contract. Assumes nothing.
-use mathlib.Core.Path.{_≡_, refl}
+use mathlib.Core.Path.{refl}
 use mir.Val.{Fits}
 use mir.Syntax.{w64}
 use borrow.Author.Needs.{needs}
@@ -7,8 +7,6 @@ use Rattle.field.specs.Field.{add}
 use Rattle.division.proofs.Step.{room}
 use Rattle.division.proofs.register.moved_high.Statement.{statement}
 use Rattle.division.proofs.register.moved_high.Tie as tie
-use Rattle.division.proofs.register.moved_high.Reads as reads
-use Rattle.division.proofs.register.moved_high.Lts as lts
 
 mul-result : tie.Need-mul-result
 mul-result c = search needs

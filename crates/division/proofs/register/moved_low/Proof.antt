@@ -1,11 +1,9 @@
 -- `register::moved_low` meets its contract. Assumes nothing.
-use mathlib.Core.Path.{_≡_, refl}
+use mathlib.Core.Path.{refl}
 use borrow.Author.Needs.{needs}
 use Rattle.field.specs.Field.{add}
 use Rattle.division.proofs.register.moved_low.Statement.{statement}
 use Rattle.division.proofs.register.moved_low.Tie as tie
-use Rattle.division.proofs.register.moved_low.Reads as reads
-use Rattle.division.proofs.register.moved_low.Lts as lts
 
 mul-result : tie.Need-mul-result
 mul-result c = search needs

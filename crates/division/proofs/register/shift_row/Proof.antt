@@ -1,18 +1,11 @@
 -- `register::shift_row` meets its contract. Assumes nothing.
-use mathlib.Core.Path.{_≡_, refl, sym, ap, _∙_}
-use Prim.Native.Nat.{ℕ, _+_, _*_, _-_, _/_, _%_, _<_, _≤_}
+use mathlib.Core.Path.{refl}
+use Prim.Native.Nat.{_+_, _*_, _-_, _≤_}
 use native.Mathlib.Omega.{arith}
 use lib.ListN.{length, getD, length-set}
-use borrow.Author.Needs.{needs}
-use Rattle.field.specs.Field.{add}
 use Rattle.division.proofs.Division.{Shifting, shifting-none, shifting-more, shifting-all}
 use Rattle.division.proofs.register.shift_row.Statement.{statement}
 use Rattle.division.proofs.register.shift_row.Tie as tie
-use Rattle.division.proofs.register.shift_row.Reads as reads
-use Rattle.division.proofs.register.shift_row.Lts as lts
-use Rattle.division.proofs.register.entry.Reads as entry-reads
-use Rattle.division.proofs.register.moved_high.Reads as moved-high-reads
-use Rattle.division.proofs.register.moved_low.Reads as moved-low-reads
 
 abbrev Inv-loop : tie.InvT-loop
 Inv-loop m row regs₀ j₀ regs j = (j ≤ length row) × Shifting m row regs₀ regs j

@@ -1,5 +1,5 @@
 -- `column::column_syndromes` meets its contract. Assumes nothing.
-use mathlib.Core.Path.{_≡_, sym, ap, _∙_}
+use mathlib.Core.Path.{ap, _∙_}
 use mathlib.Core.List.{List}
 use Prim.Native.Nat.{ℕ}
 use Rattle.lists.specs.Fill.{tabulate}
@@ -8,10 +8,6 @@ use Rattle.division.proofs.Unpacked.{unpacked-take}
 use borrow.Author.Needs.{needs}
 use Rattle.reedsolomon.proofs.column.column_syndromes.Statement.{statement}
 use Rattle.reedsolomon.proofs.column.column_syndromes.Tie as tie
-use Rattle.reedsolomon.proofs.column.column_syndromes.Reads as reads
-use Rattle.reedsolomon.proofs.column.column_syndromes.Lts as lts
-use Rattle.division.proofs.unpack.Reads as unpack-reads
-use Rattle.reedsolomon.proofs.syndromes.syndromes_into.Reads as syndromes-into-reads
 
 unpack-requires : tie.Need-unpack-requires
 unpack-requires c κs = search needs

@@ -1,14 +1,14 @@
 -- `row::correct_row_with` meets its contract. Assumes nothing.
-use mathlib.Core.Path.{_≡_, refl, sym, ap, _∙_}
+use mathlib.Core.Path.{_≡_, sym, ap, _∙_}
 use mathlib.Core.List.{List}
-use Prim.Native.Nat.{ℕ, _+_, _<_, _≤_}
+use Prim.Native.Nat.{ℕ}
 use native.Mathlib.Omega.{arith}
 use lib.ListN.{length, getD, take}
 use mir.Val.{Fits}
 use mir.Syntax.{w8}
 use Rattle.lists.specs.Bytes.{Bytes}
 use Rattle.lists.proofs.Bytes.{bytes-of}
-use Rattle.codes.specs.Decoding.{at, Locator, rootPlaces, mended}
+use Rattle.codes.specs.Decoding.{at, rootPlaces}
 use Rattle.codes.proofs.Division.{ten-roots}
 use Rattle.codes.proofs.Decision.{clean, corrected, uncorrectable, places-below}
 use Rattle.reedsolomon.proofs.Left.{told, sums}

@@ -1,5 +1,5 @@
 -- `row::row_syndromes` meets its contract. Assumes nothing.
-use mathlib.Core.Path.{_≡_, sym, ap, _∙_}
+use mathlib.Core.Path.{ap, _∙_}
 use mathlib.Core.List.{List}
 use Prim.Native.Nat.{ℕ}
 use Rattle.lists.specs.Fill.{tabulate}
@@ -7,10 +7,6 @@ use Rattle.codes.specs.Word.{syndrome}
 use borrow.Author.Needs.{needs}
 use Rattle.reedsolomon.proofs.row.row_syndromes.Statement.{statement}
 use Rattle.reedsolomon.proofs.row.row_syndromes.Tie as tie
-use Rattle.reedsolomon.proofs.row.row_syndromes.Reads as reads
-use Rattle.reedsolomon.proofs.row.row_syndromes.Lts as lts
-use Rattle.division.proofs.unpack10.Reads as unpack10-reads
-use Rattle.reedsolomon.proofs.syndromes.syndromes_into.Reads as syndromes-into-reads
 
 unpack10-requires : tie.Need-unpack10-requires
 unpack10-requires c κs = search needs
