@@ -13,7 +13,7 @@ use lib.Seq.{getD-set-same, getD-set-other}
 use borrow.Author.Tests.{eq-eqb, le-leb, lt-leb}
 use Rattle.lists.specs.Count.{bit}
 use Rattle.lists.specs.Test.{every}
-use Rattle.lists.proofs.Test.{and-left, truth, truth-of, every-at}
+use Rattle.lists.proofs.Test.{and-left, and-right, truth, truth-of, every-at}
 use Rattle.annexg.specs.Read.{tableOf, agrees, fitsOf, readGiven, bothZero, StandsFor}
 use Rattle.annexg.specs.Tables.{mainTable, subTable}
 use Rattle.annexg.specs.Index.{placeOf, slotOf, slotHolds, putOne, putEntry, putFirst, putAll, wordIndex}
@@ -73,23 +73,37 @@ places : List ℕ → Tree → Tree
 places [] r = r
 places (e ∷ es) r = places es (put (placeOf (e / 16)) (e / 16) r)
 
-placed : ℕ → ℕ → Bool
-placed k e = eqb (get (placeOf (e / 16)) (places (tableOf 1) (places (tableOf 0) leaf))) (e / 16)
+tree : Tree
+tree = places (tableOf 1) (places (tableOf 0) leaf)
 
-placed-tables : (t : ℕ) → t < 2 → T (every placed (tableOf t))
-placed-tables t h =
-    each-table (λ (x : ℕ). T (every placed (tableOf x))) (unfold placed places placeOf get put tableOf mainTable subTable in tt) (unfold placed places placeOf get put tableOf mainTable subTable in tt) t h
+-- the entry's word is the tree's at its place
+placed : Tree → ℕ → ℕ → Bool
+placed r k e = eqb (get (placeOf (e / 16)) r) (e / 16)
 
-listed-place : {z : Bool} {w b : ℕ} → Listed z w b → get (placeOf w) (places (tableOf 1) (places (tableOf 0) leaf)) ≡ w
+all : Tree → Bool
+all r = every (placed r) (tableOf 0) && every (placed r) (tableOf 1)
+
+test : T (all tree)
+unfolding all placed tree places placeOf get put tableOf mainTable subTable
+test = tt
+
+tested : (t : ℕ) → t < 2 → T (every (placed tree) (tableOf t))
+unfolding all
+tested t h =
+    let m = every (placed tree) (tableOf 0) in
+    let u = every (placed tree) (tableOf 1) in
+    each-table (λ (x : ℕ). T (every (placed tree) (tableOf x))) (and-left m u test) (and-right m u test) t h
+
+listed-place : {z : Bool} {w b : ℕ} → Listed z w b → get (placeOf w) tree ≡ w
 unfolding placed fitsOf
 listed-place {z} {w} r =
     let e = getD (tableOf (r .t)) (r .k) 0 in
     let m : e / 16 ≡ w = eqb→eq (e / 16) w (and-left (eqb (e / 16) w) (agrees (e % 16) z) (truth-of (eqb (e / 16) w && agrees (e % 16) z) (r .fit))) in
-    subst (λ (v : ℕ). get (placeOf v) (places (tableOf 1) (places (tableOf 0) leaf)) ≡ v) m
-    (eqb→eq (get (placeOf (e / 16)) (places (tableOf 1) (places (tableOf 0) leaf))) (e / 16) (every-at placed (tableOf (r .t)) (placed-tables (r .t) (r .table-small)) (r .k) (r .inside)))
+    subst (λ (v : ℕ). get (placeOf v) tree ≡ v) m
+    (eqb→eq (get (placeOf (e / 16)) tree) (e / 16) (every-at (placed tree) (tableOf (r .t)) (tested (r .t) (r .table-small)) (r .k) (r .inside)))
 
 places-differ : {y z : Bool} {v w a b : ℕ} → Listed y v a → Listed z w b → placeOf v ≡ placeOf w → v ≡ w
-places-differ r s e = sym (listed-place r) ∙ ap (λ (p : ℕ). get p (places (tableOf 1) (places (tableOf 0) leaf))) e ∙ listed-place s
+places-differ r s e = sym (listed-place r) ∙ ap (λ (p : ℕ). get p tree) e ∙ listed-place s
 
 -- entries that take one slot put the same into it
 same-slot : {y z : Bool} {v w a b : ℕ} → Listed y v a → Listed z w b → slotOf v y ≡ slotOf w z → slotHolds v a ≡ slotHolds w b
