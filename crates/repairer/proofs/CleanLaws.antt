@@ -10,7 +10,6 @@ use Rattle.lists.specs.Bytes.{Bytes}
 use Rattle.lists.proofs.Test.{truth-of}
 use Rattle.codes.specs.Word.{isCode}
 use Rattle.codes.specs.Nearest.{nearest, outcomeOf}
-use Rattle.codes.specs.declared.Outcome.{Outcome}
 use Rattle.codes.specs.declared.Outcome.the-variants.{Clean, Corrected, Uncorrectable}
 use Rattle.codes.proofs.Words.{code-of-test}
 use Rattle.codes.proofs.Nearest.{nearest-code}

@@ -11,7 +11,6 @@ use lib.Dec.{T, eqb, leb, eqb→eq, lit<}
 use lib.ListN.{length, getD, set, replicate, length-set, length-replicate, getD-replicate, List·getD-eq-default}
 use lib.Seq.{getD-set-same, getD-set-other}
 use borrow.Author.Tests.{eq-eqb, le-leb, lt-leb}
-use Rattle.lists.specs.Count.{bit}
 use Rattle.lists.specs.Test.{every}
 use Rattle.lists.proofs.Test.{and-left, and-right, truth, truth-of, every-at}
 use Rattle.annexg.specs.Read.{tableOf, agrees, fitsOf, readGiven, bothZero, StandsFor}
@@ -23,7 +22,7 @@ use Rattle.annexg.specs.declared.Reading.the-variants.{Byte}
 
 -- ---- the slots
 
-pub place-small : (w : ℕ) → placeOf w < 4096
+place-small : (w : ℕ) → placeOf w < 4096
 unfolding placeOf
 place-small w = omega arith
 
@@ -185,9 +184,6 @@ unfolding wordIndex
 index-sound =
     keep-all Sound keep-sound 1 (lit< tt) _ (keep-all Sound keep-sound 0 (lit< tt) _
     (record { long = length-replicate {A = ℕ} 8192 0; right = λ j ne. absurd (ne (empty j)) }))
-
-pub index-long : length wordIndex ≡ 8192
-index-long = index-sound .long
 
 -- a slot that has the word w gives what the search finds
 pub index-reads : (w : ℕ) (z : Bool) → getD wordIndex (slotOf w z) 0 / 256 ≡ 65536 + w → readGiven w z ≡ Byte (getD wordIndex (slotOf w z) 0 % 256)

@@ -9,7 +9,6 @@ use Rattle.lists.proofs.Fill.{Upto, upto-none, upto-more, upto-all}
 use Rattle.channel.specs.Block.{halfOf, halfAt, readAt}
 use Rattle.reader.specs.Sector.{unknownAt, unknownTally}
 use Rattle.reader.proofs.Steps.{byte-is, unknown-is}
-use borrow.Author.Needs.{needs}
 use Rattle.reader.proofs.read_bytes.Statement.{statement}
 use Rattle.reader.proofs.read_bytes.Tie as tie
 

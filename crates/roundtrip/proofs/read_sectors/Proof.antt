@@ -1,6 +1,6 @@
 -- `read_sectors` meets its contract. Assumes nothing.
-use mathlib.Core.Path.{_≡_, refl, sym, ap, ap₂, _∙_, subst}
-use mathlib.Core.List.{List, _++_}
+use mathlib.Core.Path.{_≡_, sym, ap, _∙_}
+use mathlib.Core.List.{List}
 use Prim.Native.Nat.{ℕ, _+_, _-_, _*_, _<_, _≤_}
 use lib.ListN.{length, getD, take, drop, length-drop}
 use lib.Seq.{length-take-le}
@@ -13,13 +13,6 @@ use native.Mathlib.Omega.{arith}
 use borrow.Author.Needs.{needs}
 use Rattle.roundtrip.proofs.read_sectors.Statement.{statement}
 use Rattle.roundtrip.proofs.read_sectors.Tie as tie
-use Rattle.roundtrip.proofs.read_sectors.Reads as reads
-use Rattle.roundtrip.proofs.read_sectors.Lts as lts
-use Rattle.annexg.proofs.main_table.Reads as main-table-reads
-use Rattle.annexg.proofs.sub_table.Reads as sub-table-reads
-use Rattle.annexg.proofs.sync_table.Reads as sync-table-reads
-use Rattle.reader.proofs.read_sector_with.Reads as read-sector-with-reads
-use Rattle.roundtrip.proofs.Sums.with.Reads as with-reads
 
 abbrev Inv-loop : tie.InvT-loop
 Inv-loop stream block₀ m u x y s₀ k₀ block s k =

@@ -6,13 +6,9 @@ use native.Mathlib.Omega.{arith}
 use lib.ListN.{getD, replicate}
 use Rattle.annexg.specs.Read.{tableOf}
 use Rattle.wordindex.specs.Index.{putAll, wordIndex}
-use Rattle.annexg.proofs.Search.{length-main, length-sub}
 use Rattle.annexg.proofs.Figure.{table-below}
 use Rattle.wordindex.proofs.word_index.Statement.{statement}
 use Rattle.wordindex.proofs.word_index.Tie as tie
-use Rattle.wordindex.proofs.word_index.Reads as reads
-use Rattle.wordindex.proofs.word_index.Lts as lts
-use Rattle.wordindex.proofs.put_table.Reads as put-table-reads
 
 lent : (t : ℕ) (es : List ℕ) → es ≡ tableOf t → (k : ℕ) → getD es k 0 < 1048576
 lent t es e k = rw e (table-below t k)

@@ -5,10 +5,6 @@ use native.Mathlib.Omega.{arith}
 use Rattle.repairer.proofs.DivisionLaws.{Divided, divided-none, divided-size, row-length, divided-more, divided-all}
 use Rattle.repairer.proofs.columns.divide_columns.Statement.{statement}
 use Rattle.repairer.proofs.columns.divide_columns.Tie as tie
-use Rattle.repairer.proofs.columns.divide_columns.Reads as reads
-use Rattle.repairer.proofs.columns.divide_columns.Lts as lts
-use Rattle.division.proofs.shift_row.Reads as shift-row-reads
-use Rattle.repairer.proofs.columns.recording_row.Reads as recording-row-reads
 
 abbrev Inv-loop : tie.InvT-loop
 Inv-loop m b left₀ i₀ left i = (i ≤ 208) × Divided b i left

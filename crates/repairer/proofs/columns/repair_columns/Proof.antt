@@ -1,5 +1,5 @@
 -- `columns::repair_columns` meets its contract: each turn repairs one column. Assumes nothing.
-use mathlib.Core.Path.{_≡_, sym, ap, _∙_}
+use mathlib.Core.Path.{_≡_, ap, _∙_}
 use Prim.Native.Nat.{_≤_, _-_}
 use Rattle.codes.specs.Nearest.{outcomeOf}
 use Rattle.codes.specs.Word.{isCode}
@@ -12,11 +12,6 @@ use native.Mathlib.Omega.{arith}
 use borrow.Author.Needs.{needs}
 use Rattle.repairer.proofs.columns.repair_columns.Statement.{statement}
 use Rattle.repairer.proofs.columns.repair_columns.Tie as tie
-use Rattle.repairer.proofs.columns.repair_columns.Reads as reads
-use Rattle.repairer.proofs.columns.repair_columns.Lts as lts
-use Rattle.repairer.proofs.columns.divide_columns.Reads as divide-columns-reads
-use Rattle.repairer.proofs.columns.repair_left.Reads as repair-left-reads
-use Rattle.repairer.proofs.count_word.Reads as count-word-reads
 
 abbrev Inv-loop : tie.InvT-loop
 Inv-loop t m b₀ left n₀ j₀ b n j = (j ≤ 172) × (n ≡ tallyOf 16 8 (columnOf b₀) j) × ColumnsUpto b₀ b j

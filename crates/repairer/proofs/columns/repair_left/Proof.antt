@@ -9,9 +9,6 @@ use Rattle.repairer.proofs.DivisionLaws.{column-length, column-byte, co
 use borrow.Author.Needs.{needs}
 use Rattle.repairer.proofs.columns.repair_left.Statement.{statement}
 use Rattle.repairer.proofs.columns.repair_left.Tie as tie
-use Rattle.repairer.proofs.columns.repair_left.Reads as reads
-use Rattle.repairer.proofs.columns.repair_left.Lts as lts
-use Rattle.repairer.proofs.columns.repair_column.Reads as repair-column-reads
 
 returns : tie.Need-returns
 returns c =

@@ -11,11 +11,6 @@ use Rattle.repairer.proofs.RowLaws.{row-length, row-bytes, row-byte}
 use borrow.Author.Needs.{needs}
 use Rattle.repairer.proofs.rows.repair_row.Statement.{statement}
 use Rattle.repairer.proofs.rows.repair_row.Tie as tie
-use Rattle.repairer.proofs.rows.repair_row.Reads as reads
-use Rattle.repairer.proofs.rows.repair_row.Lts as lts
-use Rattle.reedsolomon.proofs.correct_row_with.Reads as correct-row-with-reads
-use Rattle.repairer.proofs.rows.row_at.Reads as row-at-reads
-use Rattle.repairer.proofs.rows.store_row.Reads as store-row-reads
 
 row-at-requires : tie.Need-row-at-requires
 row-at-requires c κs = search needs
