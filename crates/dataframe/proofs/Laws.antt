@@ -11,10 +11,11 @@ use lib.ListN.{length, getD, take, drop, length-drop, List·getD-append}
 use lib.Seq.{ext-getD, getD-append-add, getD-take, getD-drop, length-take-le}
 use Rattle.lists.specs.Bytes.{Bytes}
 use Rattle.lists.proofs.Fill.{length-tabulate, getD-tabulate}
-use Rattle.dataframe.specs.Frame.{isPermitted, idOf, iedOf, cprMai, headOf, edcOf, dataFrame}
-use Rattle.dataframe.specs.Scrambling.{scrambledAt, scrambled}
+use Rattle.edc.specs.Edc.{edcOf}
+use Rattle.scrambling.specs.Scrambling.{scrambledAt, scrambled}
+use Rattle.scrambling.proofs.Scrambled.{scrambled-head, scrambled-end, scrambled-bytes, scrambled-twice}
+use Rattle.dataframe.specs.Frame.{isPermitted, idOf, iedOf, cprMai, headOf, dataFrame}
 use Rattle.dataframe.specs.Checks.{infoOf, numberOf, unscrambled, mainOf, iedPasses, idPasses, edcPasses, frameRefusal}
-use Rattle.dataframe.proofs.Scrambled.{scrambled-head, scrambled-end, scrambled-bytes, scrambled-twice}
 use Rattle.dataframe.proofs.Framed.{id-length, ied-length, data-length, data-bytes, data-head, data-front, data-edc, data-main}
 use Rattle.dataframe.proofs.Checked.{agree-same, refusal-none}
 

@@ -7,8 +7,9 @@ use Prim.Native.Nat.{ℕ, _+_, _*_, _%_}
 use lib.Dec.{eqb}
 use lib.ListN.{getD, take, drop}
 use Rattle.lists.specs.Count.{distance}
-use Rattle.dataframe.specs.Frame.{isPermitted, iedOf, edcOf}
-use Rattle.dataframe.specs.Scrambling.{scrambled}
+use Rattle.edc.specs.Edc.{edcOf}
+use Rattle.scrambling.specs.Scrambling.{scrambled}
+use Rattle.dataframe.specs.Frame.{isPermitted, iedOf}
 use Rattle.dataframe.specs.declared.FrameCheck.{FrameCheck}
 use Rattle.dataframe.specs.declared.FrameCheck.the-variants.{Passed, IedDiffers, IdWrong, EdcDiffers}
 

@@ -1,4 +1,2 @@
 pub mod Frame
-pub mod Tables
-pub mod Scrambling
 pub mod Checks

@@ -6,8 +6,9 @@ use Prim.Native.Nat.{ℕ, zero, suc}
 use lib.ListN.{replicate}
 use Rattle.field.specs.Field.{add, double, mulBits, mul, square, powHalves, pow}
 use Rattle.codes.specs.Parity.{addWords, timesRoot, generator, shiftIn, remainder, parity}
-use Rattle.dataframe.specs.Frame.{idOf, iedOf, edcBit, edcBits, edcFrom, fourBytes, edcOf}
-use Rattle.dataframe.specs.Scrambling.{shifted, register, scramblingByte}
+use Rattle.edc.specs.Edc.{edcBit, edcBits, edcFrom, fourBytes, edcOf}
+use Rattle.scrambling.specs.Scrambling.{shifted, register, scramblingByte}
+use Rattle.dataframe.specs.Frame.{idOf, iedOf}
 
 pub record BlockTrials : Type 0 where
   -- 1, 2, 3: ID 00000001, 00000100 and 00030000

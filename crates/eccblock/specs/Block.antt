@@ -9,8 +9,8 @@ use lib.ListN.{getD, take, drop}
 use Rattle.lists.specs.Fill.{tabulate}
 use Rattle.field.specs.Field.{lastBelow}
 use Rattle.codes.specs.Parity.{parity}
+use Rattle.scrambling.specs.Scrambling.{scrambled}
 use Rattle.dataframe.specs.Frame.{dataFrame}
-use Rattle.dataframe.specs.Scrambling.{scrambled}
 
 -- the main data of frame k
 abbrev pub mainPart : List ℕ → ℕ → List ℕ

@@ -30,7 +30,7 @@ fn scrambled_frame(t: &[u8; 768], main: &[u8], first: u32, info: u8, k: usize) -
     let end = base + 2048;
     let n = first + k as u32;
     let f = dataframe::data_frame(t, &main[base..end], info, n);
-    dataframe::scramble(f, n)
+    scrambling::scramble(f, n)
 }
 
 // Bytes one after the other, from the place at on.

@@ -3,7 +3,7 @@ use mathlib.Core.Path.{_≡_, ap, ap₂, _∙_}
 use mathlib.Core.List.{List}
 use lib.ListN.{length, take, drop, length-drop}
 use lib.Seq.{take-all}
-use Rattle.dataframe.specs.Frame.{edcOf}
+use Rattle.edc.specs.Edc.{edcOf}
 use Rattle.dataframe.specs.Checks.{agree, edcPasses}
 use Prim.Native.Nat.{ℕ}
 use native.Mathlib.Omega.{arith}

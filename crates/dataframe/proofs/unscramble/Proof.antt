@@ -1,7 +1,7 @@
 -- `dataframe::unscramble` meets its contract. Assumes nothing.
 use mathlib.Core.Path.{ap, _∙_}
 use Prim.Native.Nat.{ℕ}
-use Rattle.dataframe.specs.Scrambling.{scrambled}
+use Rattle.scrambling.specs.Scrambling.{scrambled}
 use Rattle.dataframe.specs.Checks.{unscrambled}
 use borrow.Author.Needs.{needs}
 use Rattle.dataframe.proofs.unscramble.Statement.{statement}

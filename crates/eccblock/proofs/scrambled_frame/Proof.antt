@@ -2,8 +2,8 @@
 use mathlib.Core.Path.{_≡_, ap, _∙_}
 use Prim.Native.Nat.{ℕ, _+_, _*_, _-_}
 use lib.ListN.{take, drop}
+use Rattle.scrambling.specs.Scrambling.{scrambled}
 use Rattle.dataframe.specs.Frame.{dataFrame}
-use Rattle.dataframe.specs.Scrambling.{scrambled}
 use Rattle.eccblock.specs.Block.{frame}
 use borrow.Author.Needs.{needs}
 use native.Mathlib.Omega.{arith}

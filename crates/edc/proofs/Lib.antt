@@ -1,0 +1,4 @@
+pub mod Steps
+pub mod Residue
+pub mod Sums
+pub mod Remainders

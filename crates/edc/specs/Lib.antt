@@ -1,0 +1,2 @@
+pub mod Edc
+pub mod Tables

@@ -1,0 +1,2 @@
+pub mod Scrambled
+pub mod Register
