@@ -14,8 +14,9 @@ use Rattle.lists.specs.Bytes.{Bytes}
 use Rattle.lists.proofs.Bytes.{zeros-bytes}
 use Rattle.field.specs.Field.{add}
 use Rattle.codes.specs.Parity.{shiftIn, remainder, generatorTail, parity}
-use Rattle.division.specs.Packed.{top, high, low, multiples, Packed, Beside}
-use Rattle.division.proofs.Numbers.{number-zeros}
+use Rattle.multiples.specs.Multiples.{top, high, low, multiples}
+use Rattle.division.specs.Packed.{Packed, Beside}
+use Rattle.multiples.proofs.Numbers.{number-zeros}
 use Rattle.division.proofs.Step.{packed-next}
 
 -- ---- registers of zeros

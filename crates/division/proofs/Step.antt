@@ -17,8 +17,10 @@ use Rattle.codes.specs.Parity.{timesRoot, shiftIn, remainder, generator, genera
 use Rattle.codes.proofs.Words.{addWords-length}
 use Rattle.codes.proofs.Division.{remainder-bytes}
 use Rattle.codes.proofs.Shift.{shiftAt, shift-is, shift-size, map-at}
-use Rattle.division.specs.Packed.{top, number, high, low, half, multiples, Packed}
-use Rattle.division.proofs.Numbers.{number-same, number-add, first-byte, moved}
+use Rattle.multiples.specs.Multiples.{top, number, high, low, multiples}
+use Rattle.division.specs.Packed.{Packed}
+use Rattle.multiples.proofs.Numbers.{number-same, number-add, first-byte, moved}
+use Rattle.multiples.proofs.Entries.{multiples-high, multiples-low}
 
 -- past the end too
 map-place : (h : ℕ) (g : List ℕ) (k : ℕ) → getD (map (mul h) g) k 0 ≡ mul h (getD g k 0)
@@ -72,24 +74,6 @@ module _ (g x : List ℕ) (b : ℕ) (same : length g ≡ length x) (bytes : Byte
       next 8
       ∙ ap₂ (λ (u v : ℕ). add u (number (λ i. getD (map (mul (add b v)) g) i 0) 8 8))
       (ap (λ (u : ℕ). number at 8 8 % top * 256 + u) (List·getD-eq-default x 0 l) ∙ omega arith) (sym (first-byte at small 0))
-
--- ---- the table
-
-pub multiples-high : (p h : ℕ) → h < 256 → getD (multiples p) (2 * h) 0 ≡ high (map (mul h) (generatorTail p))
-unfolding multiples half
-multiples-high p h l =
-    let a : 2 * h % 2 ≡ 0 = omega arith in
-    let b : 2 * h / 2 ≡ h = omega arith in
-    getD-tabulate (λ i. half (i % 2) (map (mul (i / 2)) (generatorTail p))) 512 (2 * h) (omega arith)
-    ∙ ap₂ (λ (u v : ℕ). half u (map (mul v) (generatorTail p))) a b
-
-pub multiples-low : (p h : ℕ) → h < 256 → getD (multiples p) (2 * h + 1) 0 ≡ low (map (mul h) (generatorTail p))
-unfolding multiples half
-multiples-low p h l =
-    let a : (2 * h + 1) % 2 ≡ 1 = omega arith in
-    let b : (2 * h + 1) / 2 ≡ h = omega arith in
-    getD-tabulate (λ i. half (i % 2) (map (mul (i / 2)) (generatorTail p))) 512 (2 * h + 1) (omega arith)
-    ∙ ap₂ (λ (u v : ℕ). half u (map (mul v) (generatorTail p))) a b
 
 -- ---- the generator
 

@@ -23,8 +23,9 @@ use Rattle.codes.specs.Parity.{addWords, generatorTail, parity}
 use Rattle.codes.proofs.Words.{IsCode, code-of-test, test-of-code, weight, light, addWords-length, addWords-bytes, syndrome-add, valueFrom-power, valueFrom-lt}
 use Rattle.codes.proofs.Division.{Code, valueFrom-append, zeros-valueAt, remainder-length, remainder-bytes, parity-code}
 use Rattle.codes.proofs.Shift.{add-at}
-use Rattle.division.specs.Packed.{number, high, low, remainderOf}
-use Rattle.division.proofs.Numbers.{number-same, number-add, number-zeros, zero-number}
+use Rattle.multiples.specs.Multiples.{number, high, low}
+use Rattle.division.specs.Packed.{remainderOf}
+use Rattle.multiples.proofs.Numbers.{number-same, number-add, number-zeros, zero-number}
 use Rattle.division.proofs.Step.{tail-length}
 use Rattle.division.proofs.Division.{zeros-place}
 

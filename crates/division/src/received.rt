@@ -4,7 +4,8 @@ ghost use mathlib.Core.Path.{_≡_};
 ghost use Prim.Native.Nat.{_≤_};
 ghost use lib.Dec.{eqb};
 ghost use lib.ListN.{length, getD};
-ghost use Rattle.division.specs.Packed.{number, high, low, multiples, remainderOf};
+ghost use Rattle.multiples.specs.Multiples.{number, high, low, multiples};
+ghost use Rattle.division.specs.Packed.{remainderOf};
 use crate::register::Remainder;
 
 // A byte; 0 past the end.

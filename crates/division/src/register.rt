@@ -6,7 +6,8 @@ ghost use Prim.Native.Nat.{ℕ, _+_, _*_, _/_, _%_, _≤_, _<_};
 ghost use lib.ListN.{length, getD};
 ghost use Rattle.field.specs.Field.{add};
 ghost use Rattle.codes.specs.Parity.{shiftIn, generatorTail, parity};
-ghost use Rattle.division.specs.Packed.{top, high, low, multiples, Beside};
+ghost use Rattle.multiples.specs.Multiples.{top, high, low, multiples};
+ghost use Rattle.division.specs.Packed.{Beside};
 
 // The first eight places of a register, and the last eight.
 pub struct Remainder {

@@ -9,9 +9,11 @@ use lib.Seq.{getD-take, getD-drop, length-take-le}
 use Rattle.lists.specs.Fill.{tabulate}
 use Rattle.lists.proofs.Fill.{length-tabulate, getD-tabulate}
 use Rattle.codes.specs.Parity.{shiftIn, remainder, generatorTail}
-use Rattle.division.specs.Packed.{multiples, Beside, unpacked}
+use Rattle.multiples.specs.Multiples.{multiples}
+use Rattle.division.specs.Packed.{Beside}
+use Rattle.parity.specs.Unpacked.{unpacked}
 use Rattle.division.proofs.Division.{beside-zeros, beside-same, beside-more, beside-all}
-use Rattle.division.proofs.Unpacked.{unpacked-packed}
+use Rattle.parity.proofs.Unpacked.{unpacked-packed}
 use Rattle.eccblock.specs.Stages.{columnByte, outerOf}
 
 -- the register of column j after its first i bytes

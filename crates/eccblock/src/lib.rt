@@ -5,7 +5,8 @@ ghost use mathlib.Core.List.{List};
 ghost use Prim.Native.Nat.{ℕ, _+_, _<_, _≤_};
 ghost use lib.ListN.{length};
 ghost use Rattle.field.specs.Tables.{LogTable};
-ghost use Rattle.division.specs.Packed.{multiples, Beside};
+ghost use Rattle.multiples.specs.Multiples.{multiples};
+ghost use Rattle.division.specs.Packed.{Beside};
 ghost use Rattle.eccblock.specs.Block.{frame, block};
 ghost use Rattle.eccblock.specs.Parts.{frameOf};
 ghost use Rattle.eccblock.specs.Encode.{encodeRefusal, encodeNumber, encodedBuffer};
@@ -109,7 +110,7 @@ fn add_outer(m: &[u64; 512], out: &mut [u8])
     while j < 172 {
         let a = 2 * j;
         let b = a + 1;
-        let p = division::unpack(regs[a], regs[b]);
+        let p = parity::unpack(regs[a], regs[b]);
         store_outer(&p, j, out);
         j += 1;
     }
@@ -136,7 +137,7 @@ fn add_inner(m: &[u64; 512], out: &mut [u8])
     while q < 208 {
         let at = q * 182;
         let end = at + 172;
-        let p = division::parity10_with(m, &out[at..end]);
+        let p = parity::parity10_with(m, &out[at..end]);
         store_inner(&p, q, out);
         q += 1;
     }
@@ -149,8 +150,8 @@ fn fill_block(main: &[u8], first: u32, info: u8, out: &mut [u8])
     ensures { λ r. ⌜ now (out .exit) ≡ block (now (main .entry)) first info ⌝ }
 {
     let t = field::log_table();
-    let outer = division::multiples16();
-    let inner = division::multiples10();
+    let outer = multiples::multiples16();
+    let inner = multiples::multiples10();
     store_frames(&t, main, first, info, out);
     add_outer(&outer, out);
     add_inner(&inner, out);

@@ -76,7 +76,7 @@ pub extern "C" fn chamanzil_row_parity(word: &[u8], out: &mut [u8]) -> u32
     if out.len() != 10 {
         return 1;
     }
-    let m = division::multiples10();
+    let m = multiples::multiples10();
     let p = reedsolomon::parity10_with(&m, word);
     copy(&p, out);
     0
@@ -94,7 +94,7 @@ pub extern "C" fn chamanzil_column_parity(word: &[u8], out: &mut [u8]) -> u32
     if out.len() != 16 {
         return 1;
     }
-    let m = division::multiples16();
+    let m = multiples::multiples16();
     let p = reedsolomon::parity16_with(&m, word);
     copy(&p, out);
     0

@@ -18,8 +18,10 @@ use Rattle.codes.specs.declared.Outcome.the-variants.{Clean}
 use Rattle.codes.proofs.Words.{test-of-code}
 use Rattle.codes.proofs.Division.{Code, sixteen-roots}
 use Rattle.codes.proofs.Decision.{clean}
-use Rattle.division.specs.Packed.{high, low, unpacked, Packed, remainderOf}
-use Rattle.division.proofs.Unpacked.{unpacked-register}
+use Rattle.multiples.specs.Multiples.{high, low}
+use Rattle.division.specs.Packed.{Packed, remainderOf}
+use Rattle.parity.specs.Unpacked.{unpacked}
+use Rattle.parity.proofs.Unpacked.{unpacked-register}
 use Rattle.division.proofs.Words.{left-length, left-bytes, left-syndrome, code-test, divided-code}
 
 module _ (p : ℕ) (c : Code p) (few : p ≤ 16) (w : List ℕ) (hw : Bytes w) (le : p ≤ length w) (h l : ℕ) (e : (h ≡ high (remainderOf p w)) × (l ≡ low (remainderOf p w))) where

@@ -6,7 +6,8 @@ ghost use Rattle.lists.specs.Fill.{tabulate};
 ghost use Rattle.field.specs.Tables.{LogTable};
 ghost use Rattle.codes.specs.Word.{syndrome};
 ghost use Rattle.codes.specs.Nearest.{nearest, outcomeOf};
-ghost use Rattle.division.specs.Packed.{multiples, unpacked};
+ghost use Rattle.multiples.specs.Multiples.{multiples};
+ghost use Rattle.parity.specs.Unpacked.{unpacked};
 ghost use Rattle.codes.specs.Decoding.{at, Locator, NonZero, rootPlaces, mended};
 use codes::Outcome;
 use division::Remainder;
@@ -28,7 +29,7 @@ fn column_syndromes(t: &[u8; 768], x: Remainder) -> [u8; 16]
     requires { ⌜ LogTable (now t) ⌝ }
     ensures { λ r. ⌜ r ≡ tabulate (syndrome (take 16 (unpacked (x .high) (x .low)))) 16 ⌝ }
 {
-    let b = division::unpack(x.high, x.low);
+    let b = parity::unpack(x.high, x.low);
     let mut s = [0u8; 16];
     crate::syndromes::syndromes_into(t, &b, &mut s);
     s
@@ -100,6 +101,6 @@ pub fn correct_column(r: Column) -> Column
     ensures { λ q. ⌜ (q .bytes ≡ nearest 16 8 (r .bytes)) × (q .outcome ≡ outcomeOf 16 8 (r .bytes)) ⌝ }
 {
     let t = field::log_table();
-    let m = division::multiples16();
+    let m = multiples::multiples16();
     correct_column_with(&t, &m, r)
 }

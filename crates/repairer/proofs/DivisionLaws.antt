@@ -15,7 +15,8 @@ use Rattle.codes.specs.Parity.{shiftIn, remainder, generatorTail, parity}
 use Rattle.codes.specs.Word.{isCode}
 use Rattle.codes.proofs.Words.{test-of-code}
 use Rattle.codes.proofs.Division.{sixteen-roots}
-use Rattle.division.specs.Packed.{multiples, Beside}
+use Rattle.multiples.specs.Multiples.{multiples}
+use Rattle.division.specs.Packed.{Beside}
 use Rattle.division.proofs.Division.{beside-zeros, beside-same, beside-more, beside-all}
 use Rattle.division.proofs.Words.{divided-code}
 use Rattle.eccblock.specs.Block.{recordingRow}

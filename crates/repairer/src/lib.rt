@@ -74,9 +74,9 @@ pub fn repair_block(block: &mut [u8], main: &mut [u8]) -> Repaired
         return Repaired::LengthRefused;
     }
     let t = field::log_table();
-    let inner = division::multiples10();
+    let inner = multiples::multiples10();
     let rows = rows::repair_rows(&t, &inner, block);
-    let outer = division::multiples16();
+    let outer = multiples::multiples16();
     let columns = columns::repair_columns(&t, &outer, block);
     let answer = frames::judge_frames(&t, block, Tallies { rows, columns });
     if repair_number(answer) != 0 {

@@ -4,7 +4,7 @@ ghost use Prim.Native.Nat.{_<_};
 ghost use lib.ListN.{length};
 ghost use Rattle.field.specs.Tables.{LogTable};
 ghost use Rattle.codes.specs.Nearest.{nearest, outcomeOf};
-ghost use Rattle.division.specs.Packed.{multiples};
+ghost use Rattle.multiples.specs.Multiples.{multiples};
 ghost use Rattle.eccblock.specs.Stages.{Stored};
 ghost use Rattle.eccblock.specs.Parts.{rowOf};
 ghost use Rattle.repairer.specs.Repair.{rowsRepaired, tallyOf};

@@ -3,8 +3,8 @@ use mathlib.Core.Path.{_≡_, refl, ap, ap₂, _∙_}
 use Prim.Native.Nat.{ℕ, _+_, _*_, _-_, _<_, _≤_}
 use native.Mathlib.Omega.{arith}
 use lib.ListN.{getD}
-use Rattle.division.specs.Packed.{top, number}
-use Rattle.division.proofs.Numbers.{number-more, number-room}
+use Rattle.multiples.specs.Multiples.{top, number}
+use Rattle.multiples.proofs.Numbers.{number-more, number-room}
 use Rattle.division.proofs.received.eight.Statement.{statement}
 use Rattle.division.proofs.received.eight.Tie as tie
 use Rattle.division.proofs.received.eight.Reads as reads

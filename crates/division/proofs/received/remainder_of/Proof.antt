@@ -9,7 +9,7 @@ use Rattle.lists.specs.Bytes.{Bytes}
 use Rattle.lists.proofs.Bytes.{bytes-of}
 use Rattle.field.specs.Field.{add}
 use Rattle.codes.specs.Parity.{parity}
-use Rattle.division.specs.Packed.{high, low}
+use Rattle.multiples.specs.Multiples.{high, low}
 use Rattle.division.proofs.Words.{left-high, left-low}
 use borrow.Author.Needs.{needs}
 use Rattle.division.proofs.received.remainder_of.Statement.{statement}

@@ -4,7 +4,7 @@ use mathlib.Core.List.{List}
 use Prim.Native.Nat.{ℕ}
 use Rattle.lists.specs.Fill.{tabulate}
 use Rattle.codes.specs.Word.{syndrome}
-use Rattle.division.proofs.Unpacked.{unpacked-take}
+use Rattle.parity.proofs.Unpacked.{unpacked-take}
 use borrow.Author.Needs.{needs}
 use Rattle.reedsolomon.proofs.column.column_syndromes.Statement.{statement}
 use Rattle.reedsolomon.proofs.column.column_syndromes.Tie as tie

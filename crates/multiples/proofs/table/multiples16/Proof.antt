@@ -1,0 +1,15 @@
+-- `table::multiples16` meets its contract, by computation. Assumes nothing.
+use mathlib.Core.Path.{refl}
+use Rattle.lists.specs.Fill.{tabulateFrom}
+use Rattle.field.specs.Field.{add, double, mulBits, mul, square, powHalves, pow}
+use Rattle.codes.specs.Parity.{addWords, timesRoot, generator}
+use Rattle.multiples.specs.Multiples.{number, high, low, half, multiples}
+use Rattle.multiples.proofs.table.multiples16.Statement.{statement}
+use Rattle.multiples.proofs.table.multiples16.Tie as tie
+
+returns : tie.Need-returns
+unfolding tabulateFrom add double mulBits mul square powHalves pow addWords timesRoot generator number high low half multiples
+returns c = refl
+
+pub multiples16-spec : {M : Type 1} → statement M
+multiples16-spec = tie.close (tie.spec returns)

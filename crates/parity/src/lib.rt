@@ -1,0 +1,13 @@
+// The parity bytes of the Reed-Solomon codes of ECMA-268 (16.2 and clause 18), and the bytes of a packed register.
+mod ied;
+mod parity;
+mod places;
+
+pub use ied::parity2;
+pub use ied::parity2_with;
+pub use parity::parity10;
+pub use parity::parity10_with;
+pub use parity::parity16;
+pub use parity::parity16_with;
+pub use parity::unpack10;
+pub use places::unpack;
