@@ -3,7 +3,7 @@
 use mathlib.Core.Path.{_≡_, refl, sym, ap, ap₂, _∙_}
 use Prim.Native.Nat.{ℕ, _+_, _*_, _^_, _/_, _%_, _<_}
 use native.Mathlib.Nat.{mod-lt}
-use native.Mathlib.Nat.{zero-mul as ℕ-zero-mul, one-mul as ℕ-one-mul, add-zero as ℕ-add-zero}
+use native.Mathlib.Nat.{zero-mul as ℕ-zero-mul, add-zero as ℕ-add-zero}
 use native.Mathlib.Omega.{arith}
 use lib.Bits.{bitXor, xor-shr, xor-mod, xor-block, xor-shifted}
 use lib.Pow.{pow-pos, split}
