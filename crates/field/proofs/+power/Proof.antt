@@ -22,7 +22,6 @@ power-at t = and 1 power-kinds.ps (is 1 power-kinds.ps μ-power t) power.Pre
 abbrev power-below : ℕ → In 1 power-kinds.ps
 power-below t = and 1 power-kinds.ps (falls 1 power-kinds.ps _<_ μ-power t) power.Pre
 
--- src/lib.rt:104:9
 power-returns : (t : ℕ) → power-lts.Need-returns (
   power-below t,
   power.Post,
@@ -32,7 +31,6 @@ power-returns : (t : ℕ) → power-lts.Need-returns (
 power-returns t c =
     sym (ap (pow (c .before .args .a)) (c .if1 .taken) ∙ pow-zero (c .before .args .a))
 
--- src/lib.rt:106:9
 power-power-requires : (t : ℕ) → power-lts.Need-power-requires (
   power-below t,
   power.Post,
@@ -42,7 +40,6 @@ power-power-requires : (t : ℕ) → power-lts.Need-power-requires (
 power-power-requires t c κs =
     (omega (arith, c .before .pre .0, c .if1 .left), c .before .pre .1)
 
--- src/lib.rt:107:9
 power-product-requires : (t : ℕ) → power-lts.Need-product-requires (
   power-below t,
   power.Post,
@@ -52,7 +49,6 @@ power-product-requires : (t : ℕ) → power-lts.Need-product-requires (
 power-product-requires t c κs =
     c .before .before .pre .1
 
--- src/lib.rt:111:9
 power-product-requires-2 : (t : ℕ) → power-lts.Need-product-requires-2 (
   power-below t,
   power.Post,
@@ -62,7 +58,6 @@ power-product-requires-2 : (t : ℕ) → power-lts.Need-product-requires-2 (
 power-product-requires-2 t c κs =
     c .before .before .before .before .pre .1
 
--- src/lib.rt:99:1
 power-returns-2 : (t : ℕ) → power-lts.Need-returns-2 (
   power-below t,
   power.Post,
@@ -74,7 +69,6 @@ power-returns-2 t c =
     c .before .product .ensures
     ∙ pow-even (s .args .a) (s .args .n) (c .before .before .power .result) (omega (arith, c .before .before .before .if1 .left)) (c .if2 .taken) (omega arith) (c .before .before .power .ensures)
 
--- src/lib.rt:99:1
 power-returns-3 : (t : ℕ) → power-lts.Need-returns-3 (
   power-below t,
   power.Post,

@@ -13,23 +13,18 @@ use Rattle.field.proofs.inverse_of.Reads as reads
 use Rattle.field.proofs.inverse_of.Lts as lts
 use Rattle.field.proofs.index.Reads as index-reads
 
--- src/lib.rt:92:9
 returns : tie.Need-returns
 returns c = sym (ap inverse (c .if1 .taken) ∙ inverse-zero)
 
--- src/lib.rt:94:21
 index-requires : tie.Need-index-requires
 index-requires c κs = search needs
 
--- src/lib.rt:94:19
 element-copy-out-index : tie.Need-element-copy-out-index
 element-copy-out-index c = search needs
 
--- src/lib.rt:94:9
 index-requires-2 : tie.Need-index-requires-2
 index-requires-2 c κs = search needs
 
--- src/lib.rt:95:14
 sub-result : tie.Need-sub-result
 sub-result c =
     let s = c .before .before .before .before in
@@ -39,15 +34,12 @@ sub-result c =
           (c .index2 .ensures ∙ ap (λ (x : ℕ). getD (s .args .t .now) x 0) (c .before .before .index .ensures)),
     )
 
--- src/lib.rt:95:7
 add-result : tie.Need-add-result
 add-result c = search needs
 
--- src/lib.rt:95:5
 element-copy-out-result : tie.Need-element-copy-out-result
 element-copy-out-result c = search needs
 
--- src/lib.rt:87:1
 returns-2 : tie.Need-returns-2
 returns-2 c =
     let d = c .before in

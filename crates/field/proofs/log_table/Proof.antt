@@ -7,7 +7,6 @@ use Rattle.field.proofs.log_table.Tie as tie
 use Rattle.field.proofs.log_table.Reads as reads
 use Rattle.field.proofs.log_table.Lts as lts
 
--- src/lib.rt:58:1
 returns : tie.Need-returns
 unfolding add double logRight expRight
 returns c = right-table _ (record { first = refl; logs = tt; exps = tt })

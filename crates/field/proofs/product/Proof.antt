@@ -15,35 +15,27 @@ use Rattle.field.proofs.product.Reads as reads
 use Rattle.field.proofs.product.Lts as lts
 use Rattle.field.proofs.index.Reads as index-reads
 
--- src/lib.rt:76:9
 returns : tie.Need-returns
 returns c = sym (ap (λ (x : ℕ). mul x (c .before .args .b)) (c .if1 .taken) ∙ zero-mul (c .before .args .b))
 
--- src/lib.rt:79:9
 returns-2 : tie.Need-returns-2
 returns-2 c = sym (ap (mul (c .before .before .args .a)) (c .if2 .taken) ∙ mul-zero (c .before .before .args .a))
 
--- src/lib.rt:81:21
 index-requires : tie.Need-index-requires
 index-requires c κs = search needs
 
--- src/lib.rt:81:19
 element-copy-out-index : tie.Need-element-copy-out-index
 element-copy-out-index c = search needs
 
--- src/lib.rt:81:9
 index-requires-2 : tie.Need-index-requires-2
 index-requires-2 c κs = search needs
 
--- src/lib.rt:82:21
 index-requires-3 : tie.Need-index-requires-3
 index-requires-3 c κs = search needs
 
--- src/lib.rt:82:19
 element-copy-out-index-2 : tie.Need-element-copy-out-index-2
 element-copy-out-index-2 c = search needs
 
--- src/lib.rt:82:9
 index-requires-4 : tie.Need-index-requires-4
 index-requires-4 c κs = search needs
 

@@ -8,31 +8,25 @@ use Rattle.roundtrip.proofs.answer_of.Tie as tie
 use Rattle.roundtrip.proofs.answer_of.Reads as reads
 use Rattle.roundtrip.proofs.answer_of.Lts as lts
 
--- src/lib.rt:81:27
 enum-known-r : tie.Need-enum-known-r
 enum-known-r c = search needs
 
--- src/lib.rt:87:34
 enum-known-r-2 : tie.Need-enum-known-r-2
 enum-known-r-2 c = search needs
 
--- src/lib.rt:88:36
 enum-told : tie.Need-enum-told
 enum-told c = search needs
 
--- src/lib.rt:77:1
 returns : tie.Need-returns
 returns c =
     let s = c .before .before .before in
     sym (ap (λ (r : Repaired). withSums r (s .args .s .unknown) (s .args .s .sync)) (c .before .r .given .1))
 
--- src/lib.rt:77:1
 returns-2 : tie.Need-returns-2
 returns-2 c =
     let s = c .before .before .before in
     sym (ap (λ (r : Repaired). withSums r (s .args .s .unknown) (s .args .s .sync)) (c .before .r2 .given .1))
 
--- src/lib.rt:77:1
 returns-3 : tie.Need-returns-3
 returns-3 c = search needs
 

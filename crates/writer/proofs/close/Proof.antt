@@ -10,44 +10,37 @@ use borrow.Author.Needs.{needs}
 use Rattle.writer.proofs.close.Statement.{statement}
 use Rattle.writer.proofs.close.Tie as tie
 
--- src/lib.rt:107:9
 closing-refusal-requires : tie.Need-closing-refusal-requires
 closing-refusal-requires c κs = search needs
 
 enum-told : tie.Need-enum-told
 enum-told c = search needs
 
--- src/lib.rt:109:9
 returns : tie.Need-returns
 returns c =
     let a = c .before .before .before .args in
     (c .before .closing-refusal .ensures, closing-refused (a .w) (a .out .now) _ (c .before .closing-refusal .ensures) (refused (c .before .closing-refusal .result) (c .match .keys2)))
 
--- src/lib.rt:114:29
 run-of-requires : tie.Need-run-of-requires
 run-of-requires c κs =
     let w = c .before .before .before .before .args .w in
     near w (closing-opens w _ (sym (c .before .before .closing-refusal .ensures) ∙ done (c .before .before .closing-refusal .result) (c .before .match .keys1)) .is)
 
--- src/lib.rt:114:9
 closing-requires : tie.Need-closing-requires
 closing-requires c κs =
     let w = c .before .before .before .before .before .before .args .w in
     let o = closing-opens w _ (sym (c .before .before .before .before .closing-refusal .ensures) ∙ done (c .before .before .before .before .closing-refusal .result) (c .before .before .before .match .keys1)) in
     (subst (λ (z : Run). Room z 32) (sym (c .before .run-of .ensures)) (sound-room w (o .is) 32 (omega arith)), o .to-is)
 
--- src/lib.rt:115:9
 record-of-requires : tie.Need-record-of-requires
 record-of-requires c κs =
     let w = c .before .before .before .before .before .before .before .before .before .args .w in
     let o = closing-opens w _ (sym (c .before .before .before .before .before .before .before .closing-refusal .ensures) ∙ done (c .before .before .before .before .before .before .before .closing-refusal .result) (c .before .before .before .before .before .before .match .keys1)) in
     closing-small w _ (o .is) (c .before .before .closing .ensures .run ∙ ap (λ (z : Run). closingOf z .run) (c .before .before .before .before .run-of .ensures))
 
--- src/lib.rt:100:1
 same-length : tie.Need-same-length
 same-length c = search needs
 
--- src/lib.rt:100:1
 returns-2 : tie.Need-returns-2
 returns-2 c =
     let a = c .before .before .before .before .before .before .before .before .before .before .args in

@@ -10,14 +10,12 @@ use borrow.Author.Needs.{needs}
 use Rattle.writer.proofs.write_sector.Statement.{statement}
 use Rattle.writer.proofs.write_sector.Tie as tie
 
--- src/lib.rt:84:9
 sector-refusal-requires : tie.Need-sector-refusal-requires
 sector-refusal-requires c κs = search needs
 
 enum-told : tie.Need-enum-told
 enum-told c = search needs
 
--- src/lib.rt:86:9
 returns : tie.Need-returns
 returns c =
     let a = c .before .before .before .before .args in (
@@ -25,37 +23,31 @@ returns c =
       sector-refused (a .w) (a .bytes .now) (a .out .now) _ (c .before .sector-refusal .ensures) (refused (c .before .sector-refusal .result) (c .match .keys2)),
     )
 
--- src/lib.rt:91:28
 run-of-requires : tie.Need-run-of-requires
 run-of-requires c κs =
     let w = c .before .before .before .before .before .args .w in
     near w (sector-opens w _ _ (sym (c .before .before .sector-refusal .ensures) ∙ done (c .before .before .sector-refusal .result) (c .before .match .keys1)) .is)
 
--- src/lib.rt:91:9
 sector-requires : tie.Need-sector-requires
 sector-requires c κs =
     let a = c .before .before .before .before .before .before .before .args in
     let o = sector-opens (a .w) _ _ (sym (c .before .before .before .before .sector-refusal .ensures) ∙ done (c .before .before .before .before .sector-refusal .result) (c .before .before .before .match .keys1)) in
     subst (λ (z : Run). SectorBegins z (a .bytes .now) (a .out .now)) (sym (c .before .run-of .ensures)) (sector-begins (a .w) (a .bytes .now) (a .out .now) o)
 
--- src/lib.rt:92:38
 add-record-of : tie.Need-add-record-of
 add-record-of c =
     let o = sector-opens (c .before .before .before .before .before .before .before .before .before .before .before .args .w) _ _ (sym (c .before .before .before .before .before .before .before .before .sector-refusal .ensures) ∙ done (c .before .before .before .before .before .before .before .before .sector-refusal .result) (c .before .before .before .before .before .before .before .match .keys1)) in
     omega (arith, o .more)
 
--- src/lib.rt:92:9
 record-of-requires : tie.Need-record-of-requires
 record-of-requires c κs =
     let a = c .before .before .before .before .before .before .before .before .before .before .before .args in
     let o = sector-opens (a .w) _ _ (sym (c .before .before .before .before .before .before .before .before .sector-refusal .ensures) ∙ done (c .before .before .before .before .before .before .before .before .sector-refusal .result) (c .before .before .before .before .before .before .before .match .keys1)) in
     sector-small (a .w) (a .bytes .now) _ (o .is) (c .before .before .before .sector .ensures .run ∙ ap (λ (z : Run). sectorOf z (a .bytes .now) .run) (c .before .before .before .before .before .run-of .ensures))
 
--- src/lib.rt:77:1
 same-length : tie.Need-same-length
 same-length c = search needs
 
--- src/lib.rt:77:1
 returns-2 : tie.Need-returns-2
 returns-2 c =
     let a = c .before .before .before .before .before .before .before .before .before .before .before .before .args in

@@ -3,11 +3,9 @@ use borrow.Author.Tests.{eq-eqb, ne-eqb}
 use Rattle.division.proofs.received.is_zero.Statement.{statement}
 use Rattle.division.proofs.received.is_zero.Tie as tie
 
--- src/received.rt:54:9
 returns : tie.Need-returns
 returns c = rw (ne-eqb (c .before .before .args .x .high) 0 (c .if1 .taken))
 
--- src/received.rt:50:1
 returns-2 : tie.Need-returns-2
 returns-2 c = rw (eq-eqb (c .before .before .before .args .x .high) 0 (c .before .if1 .left))
 

@@ -15,41 +15,32 @@ use borrow.Author.Needs.{needs}
 use Rattle.division.proofs.received.remainder_of.Statement.{statement}
 use Rattle.division.proofs.received.remainder_of.Tie as tie
 
--- src/received.rt:38:13
 sub-n : tie.Need-sub-n
 sub-n c = search needs
 
--- src/received.rt:39:38
 slice-aggregate-divide : tie.Need-slice-aggregate-divide
 slice-aggregate-divide c =
     let s = c .before .before in
     sym (length-take-le (length (s .args .w .now) - s .args .p) (s .args .w .now) (omega arith))
 
--- src/received.rt:39:9
 divide-requires : tie.Need-divide-requires
 divide-requires c κs = search needs
 
--- src/received.rt:40:13
 sub-q : tie.Need-sub-q
 sub-q c = search needs
 
--- src/received.rt:40:13
 part-q-start : tie.Need-part-q-start
 part-q-start c = search needs
 
--- src/received.rt:40:13
 part-q-end : tie.Need-part-q-end
 part-q-end c = search needs
 
--- src/received.rt:42:24
 eight-requires : tie.Need-eight-requires
 eight-requires c κs = search needs
 
--- src/received.rt:43:22
 eight-requires-2 : tie.Need-eight-requires-2
 eight-requires-2 c κs = search needs
 
--- src/received.rt:34:1
 returns : tie.Need-returns
 unfolding add high low
 returns c =

@@ -13,55 +13,42 @@ Inv-loop m d high₀ low₀ i₀ high low i = (i ≤ length d) × Divided m d i 
 abbrev μ-loop : tie.MeasureT-loop
 μ-loop m d high₀ low₀ i₀ high low i = length d - i
 
--- src/divide.rt:54:5
 loop-holds : tie.Need-loop-holds Inv-loop μ-loop
 loop-holds c = (omega arith, divided-none (c .before .args .m .now) (c .before .args .d .now))
 
--- src/divide.rt:55:29
 shared-slice-read-entry : tie.Need-shared-slice-read-entry Inv-loop μ-loop
 shared-slice-read-entry c = omega arith
 
--- src/divide.rt:55:13
 entry-requires : tie.Need-entry-requires Inv-loop μ-loop
 entry-requires c κs = tt
 
--- src/divide.rt:56:38
 mul-moved-high : tie.Need-mul-moved-high Inv-loop μ-loop
 mul-moved-high c = omega (arith, c .entry .ensures .0, c .entry .ensures .1)
 
--- src/divide.rt:56:38
 element-copy-out-moved-high : tie.Need-element-copy-out-moved-high Inv-loop μ-loop
 element-copy-out-moved-high c = omega (arith, c .entry .ensures .0, c .entry .ensures .1)
 
--- src/divide.rt:56:9
 moved-high-requires : tie.Need-moved-high-requires Inv-loop μ-loop
 moved-high-requires c κs = tt
 
--- src/divide.rt:57:32
 add-moved-low : tie.Need-add-moved-low Inv-loop μ-loop
 add-moved-low c = omega (arith, c .before .before .entry .ensures .0, c .before .before .entry .ensures .1)
 
--- src/divide.rt:57:30
 mul-moved-low : tie.Need-mul-moved-low Inv-loop μ-loop
 mul-moved-low c = omega (arith, c .before .before .entry .ensures .0, c .before .before .entry .ensures .1)
 
--- src/divide.rt:57:30
 element-copy-out-moved-low : tie.Need-element-copy-out-moved-low Inv-loop μ-loop
 element-copy-out-moved-low c = omega (arith, c .before .before .entry .ensures .0, c .before .before .entry .ensures .1)
 
--- src/divide.rt:57:9
 moved-low-requires : tie.Need-moved-low-requires Inv-loop μ-loop
 moved-low-requires c κs = tt
 
--- src/divide.rt:58:9
 add-i : tie.Need-add-i Inv-loop μ-loop
 add-i c = omega arith
 
--- src/divide.rt:54:5
 loop-less : tie.Need-loop-less Inv-loop μ-loop
 loop-less c = omega arith
 
--- src/divide.rt:54:5
 loop-again : tie.Need-loop-again Inv-loop μ-loop
 loop-again c =
     let s = c .before .before .before .before .before .before .before .before .before in
@@ -72,7 +59,6 @@ loop-again c =
           (omega arith) refl (e .ensures) (c .before .before .moved-high .ensures) (c .moved-low .ensures) (l .inv .1),
     )
 
--- src/divide.rt:48:1
 returns : tie.Need-returns Inv-loop μ-loop
 returns c p le e =
     let s = c .before .before .before in

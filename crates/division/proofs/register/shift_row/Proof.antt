@@ -13,97 +13,74 @@ Inv-loop m row regs₀ j₀ regs j = (j ≤ length row) × Shifting m row regs�
 abbrev μ-loop : tie.MeasureT-loop
 μ-loop m row regs₀ j₀ regs j = length row - j
 
--- src/divide.rt:69:5
 loop-holds : tie.Need-loop-holds Inv-loop μ-loop
 loop-holds c = (omega arith, shifting-none (c .before .before .args .m .now) (c .before .before .args .row .now) (c .before .before .args .regs .now))
 
--- src/divide.rt:70:17
 mul-a : tie.Need-mul-a Inv-loop μ-loop
 mul-a c = omega arith
 
--- src/divide.rt:71:17
 add-b : tie.Need-add-b Inv-loop μ-loop
 add-b c = omega arith
 
--- src/divide.rt:72:20
 mul-high : tie.Need-mul-high Inv-loop μ-loop
 mul-high c = omega arith
 
--- src/divide.rt:72:20
 slice-read-high : tie.Need-slice-read-high Inv-loop μ-loop
 slice-read-high c = omega arith
 
--- src/divide.rt:73:19
 mul-low : tie.Need-mul-low Inv-loop μ-loop
 mul-low c = omega arith
 
--- src/divide.rt:73:19
 slice-read-low : tie.Need-slice-read-low Inv-loop μ-loop
 slice-read-low c = omega arith
 
--- src/divide.rt:74:29
 shared-slice-read-entry : tie.Need-shared-slice-read-entry Inv-loop μ-loop
 shared-slice-read-entry c = omega arith
 
--- src/divide.rt:74:13
 entry-requires : tie.Need-entry-requires Inv-loop μ-loop
 entry-requires c κs = tt
 
--- src/divide.rt:75:41
 mul-moved-high : tie.Need-mul-moved-high Inv-loop μ-loop
 mul-moved-high c = omega (arith, c .entry .ensures .0, c .entry .ensures .1)
 
--- src/divide.rt:75:41
 element-copy-out-moved-high : tie.Need-element-copy-out-moved-high Inv-loop μ-loop
 element-copy-out-moved-high c = omega (arith, c .entry .ensures .0, c .entry .ensures .1)
 
--- src/divide.rt:75:19
 moved-high-requires : tie.Need-moved-high-requires Inv-loop μ-loop
 moved-high-requires c κs = tt
 
--- src/divide.rt:75:9
 mul-regs : tie.Need-mul-regs Inv-loop μ-loop
 mul-regs c = omega arith
 
--- src/divide.rt:75:9
 slice-write-regs : tie.Need-slice-write-regs Inv-loop μ-loop
 slice-write-regs c = omega arith
 
--- src/divide.rt:76:36
 add-moved-low : tie.Need-add-moved-low Inv-loop μ-loop
 add-moved-low c = omega (arith, c .before .before .entry .ensures .0, c .before .before .entry .ensures .1)
 
--- src/divide.rt:76:34
 mul-moved-low : tie.Need-mul-moved-low Inv-loop μ-loop
 mul-moved-low c = omega (arith, c .before .before .entry .ensures .0, c .before .before .entry .ensures .1)
 
--- src/divide.rt:76:34
 element-copy-out-moved-low : tie.Need-element-copy-out-moved-low Inv-loop μ-loop
 element-copy-out-moved-low c = omega (arith, c .before .before .entry .ensures .0, c .before .before .entry .ensures .1)
 
--- src/divide.rt:76:19
 moved-low-requires : tie.Need-moved-low-requires Inv-loop μ-loop
 moved-low-requires c κs = tt
 
--- src/divide.rt:76:9
 mul-regs-2 : tie.Need-mul-regs-2 Inv-loop μ-loop
 mul-regs-2 c = omega arith
 
--- src/divide.rt:76:9
 slice-write-regs-2 : tie.Need-slice-write-regs-2 Inv-loop μ-loop
 slice-write-regs-2 c =
     let l = c .before .before .before .before .before .before .before .before .before .loop in
     omega (arith, length-set (l .regs) (2 * l .j) (c .before .before .moved-high .result))
 
--- src/divide.rt:77:9
 add-j : tie.Need-add-j Inv-loop μ-loop
 add-j c = omega arith
 
--- src/divide.rt:69:5
 loop-less : tie.Need-loop-less Inv-loop μ-loop
 loop-less c = omega arith
 
--- src/divide.rt:69:5
 loop-again : tie.Need-loop-again Inv-loop μ-loop
 loop-again c =
     let s = c .before .before .before .before .before .before .before .before .before .before .before .before in
@@ -114,11 +91,9 @@ loop-again c =
           (c .before .before .moved-high .result) (c .moved-low .result) (s .pre) (omega arith) refl refl (e .ensures) (c .before .before .moved-high .ensures) (c .moved-low .ensures) (l .inv .1),
     )
 
--- src/divide.rt:64:1
 same-length : tie.Need-same-length Inv-loop μ-loop
 same-length c = c .before .loop .inv .1 .same
 
--- src/divide.rt:64:1
 returns : tie.Need-returns Inv-loop μ-loop
 returns c =
     let s = c .before .before .before .before in

@@ -13,15 +13,12 @@ use borrow.Author.Needs.{needs}
 use Rattle.parity.proofs.parity.parity10_with.Statement.{statement}
 use Rattle.parity.proofs.parity.parity10_with.Tie as tie
 
--- src/parity.rt:64:9
 divide-requires : tie.Need-divide-requires
 divide-requires c κs = search needs
 
--- src/parity.rt:65:5
 unpack10-requires : tie.Need-unpack10-requires
 unpack10-requires c κs = search needs
 
--- src/parity.rt:60:1
 returns : tie.Need-returns
 returns c =
     let s = c .before .before .before in

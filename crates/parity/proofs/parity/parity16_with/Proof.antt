@@ -13,15 +13,12 @@ use borrow.Author.Needs.{needs}
 use Rattle.parity.proofs.parity.parity16_with.Statement.{statement}
 use Rattle.parity.proofs.parity.parity16_with.Tie as tie
 
--- src/parity.rt:72:9
 divide-requires : tie.Need-divide-requires
 divide-requires c κs = search needs
 
--- src/parity.rt:73:5
 unpack-requires : tie.Need-unpack-requires
 unpack-requires c κs = search needs
 
--- src/parity.rt:68:1
 returns : tie.Need-returns
 returns c =
     let s = c .before .before .before in

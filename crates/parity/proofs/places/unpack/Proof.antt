@@ -5,71 +5,54 @@ use borrow.Author.Needs.{needs}
 use Rattle.parity.proofs.places.unpack.Statement.{statement}
 use Rattle.parity.proofs.places.unpack.Tie as tie
 
--- src/parity.rt:40:9
 byte-requires : tie.Need-byte-requires
 byte-requires c κs = search needs
 
--- src/parity.rt:41:9
 byte-requires-2 : tie.Need-byte-requires-2
 byte-requires-2 c κs = search needs
 
--- src/parity.rt:42:9
 byte-requires-3 : tie.Need-byte-requires-3
 byte-requires-3 c κs = search needs
 
--- src/parity.rt:43:9
 byte-requires-4 : tie.Need-byte-requires-4
 byte-requires-4 c κs = search needs
 
--- src/parity.rt:44:9
 byte-requires-5 : tie.Need-byte-requires-5
 byte-requires-5 c κs = search needs
 
--- src/parity.rt:45:9
 byte-requires-6 : tie.Need-byte-requires-6
 byte-requires-6 c κs = search needs
 
--- src/parity.rt:46:9
 byte-requires-7 : tie.Need-byte-requires-7
 byte-requires-7 c κs = search needs
 
--- src/parity.rt:47:9
 byte-requires-8 : tie.Need-byte-requires-8
 byte-requires-8 c κs = search needs
 
--- src/parity.rt:48:9
 byte-requires-9 : tie.Need-byte-requires-9
 byte-requires-9 c κs = search needs
 
--- src/parity.rt:49:9
 byte-requires-10 : tie.Need-byte-requires-10
 byte-requires-10 c κs = search needs
 
--- src/parity.rt:50:9
 byte-requires-11 : tie.Need-byte-requires-11
 byte-requires-11 c κs = search needs
 
--- src/parity.rt:51:9
 byte-requires-12 : tie.Need-byte-requires-12
 byte-requires-12 c κs = search needs
 
--- src/parity.rt:52:9
 byte-requires-13 : tie.Need-byte-requires-13
 byte-requires-13 c κs = search needs
 
--- src/parity.rt:53:9
 byte-requires-14 : tie.Need-byte-requires-14
 byte-requires-14 c κs = search needs
 
--- src/parity.rt:54:9
 byte-requires-15 : tie.Need-byte-requires-15
 byte-requires-15 c κs = search needs
 
--- src/parity.rt:55:9
 byte-requires-16 : tie.Need-byte-requires-16
 byte-requires-16 c κs = search needs
 
--- src/parity.rt:36:1
 returns : tie.Need-returns
 unfolding tabulateFrom byteOf unpacked
 returns c = cc

@@ -7,27 +7,21 @@ use Rattle.roundtrip.proofs.Sums.with.Tie as tie
 use Rattle.roundtrip.proofs.Sums.with.Reads as reads
 use Rattle.roundtrip.proofs.Sums.with.Lts as lts
 
--- src/lib.rt:43:34
 enum-known-r : tie.Need-enum-known-r
 enum-known-r c = search needs
 
--- src/lib.rt:44:26
 add-t7 : tie.Need-add-t7
 add-t7 c = search needs
 
--- src/lib.rt:45:23
 add-t9 : tie.Need-add-t9
 add-t9 c = search needs
 
--- src/lib.rt:47:42
 enum-told : tie.Need-enum-told
 enum-told c = search needs
 
--- src/lib.rt:38:5
 returns : tie.Need-returns
 returns c = sym (ap (addSector (c .before .before .before .before .before .args .self)) (c .before .before .before .r .given .1))
 
--- src/lib.rt:38:5
 returns-2 : tie.Need-returns-2
 returns-2 c = search needs
 

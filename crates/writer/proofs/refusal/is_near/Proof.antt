@@ -7,11 +7,9 @@ use Rattle.writer.proofs.Signed.{near-low, near-rest}
 use Rattle.writer.proofs.refusal.is_near.Statement.{statement}
 use Rattle.writer.proofs.refusal.is_near.Tie as tie
 
--- src/refusal.rt:20:9
 returns : tie.Need-returns
 returns c = let a = c .before in near-low (a .args .d) (ap (λ (z : ℤ). ltZ z (negsuc 1099511627775)) (sym (toZ-ofZ w64 (a .args .d) (a .fits .d))) ∙ c .if1 .taken)
 
--- src/refusal.rt:16:1
 returns-2 : tie.Need-returns-2
 returns-2 c =
     let a = c .before in

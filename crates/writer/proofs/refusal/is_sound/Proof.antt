@@ -13,39 +13,31 @@ use borrow.Author.Needs.{needs}
 use Rattle.writer.proofs.refusal.is_sound.Statement.{statement}
 use Rattle.writer.proofs.refusal.is_sound.Tie as tie
 
--- src/refusal.rt:91:9
 returns : tie.Need-returns
 returns c = sound-by (c .before .before .args .w) false _ _ _ _ _ (lt-leb 1 _ (c .if1 .taken)) refl refl refl refl refl
 
--- src/refusal.rt:94:9
 returns-2 : tie.Need-returns-2
 returns-2 c = sound-by (c .before .before .before .before .args .w) true false _ _ _ _ (le-leb 1 _ (c .before .before .if1 .left)) (lt-leb _ 4 (c .if2 .taken)) refl refl refl refl
 
--- src/refusal.rt:97:9
 returns-3 : tie.Need-returns-3
 returns-3 c = sound-by (c .before .before .before .before .before .before .args .w) true true false _ _ _ (le-leb 1 _ (c .before .before .before .before .if1 .left)) (le-leb _ 4 (c .before .before .if2 .left)) (lt-leb _ 1 (c .if3 .taken)) refl refl refl
 
--- src/refusal.rt:100:9
 returns-4 : tie.Need-returns-4
 returns-4 c =
     sound-by (c .before .before .before .before .before .before .before .before .args .w) true true true false _ _ (le-leb 1 _ (c .before .before .before .before .before .before .if1 .left)) (le-leb _ 4 (c .before .before .before .before .if2 .left)) (le-leb _ 1 (c .before .before .if3 .left))
     (lt-leb _ 16 (c .if4 .taken)) refl refl
 
--- src/refusal.rt:102:9
 is-whole-requires : tie.Need-is-whole-requires
 is-whole-requires c κs = search needs
 
--- src/refusal.rt:103:9
 returns-5 : tie.Need-returns-5
 returns-5 c =
     sound-by (c .before .before .before .before .before .before .before .before .before .before .args .w) true true true true false _ (le-leb 1 _ (c .before .before .before .before .before .before .before .before .if1 .left)) (le-leb _ 4 (c .before .before .before .before .before .before .if2 .left)) (le-leb _ 1 (c .before .before .before .before .if3 .left))
     (le-leb _ 16 (c .before .before .if4 .left)) (sym (c .before .is-whole .ensures) ∙ not-true (c .before .is-whole .result) (c .if5 .taken)) refl
 
--- src/refusal.rt:105:9
 is-near-requires : tie.Need-is-near-requires
 is-near-requires c κs = search needs
 
--- src/refusal.rt:106:9
 returns-6 : tie.Need-returns-6
 returns-6 c =
     let w = c .before .before .before .before .before .before .before .before .before .before .before .before .before .args .w in
@@ -55,19 +47,15 @@ returns-6 c =
     (too-far w (c .before .before .before .before .before .if4 .left)
     (ap (λ (z : ℤ). leb (natAbs z) zeroAt) (sym back) ∙ sym (c .before .is-near .ensures) ∙ not-true (c .before .is-near .result) (c .if6 .taken)))
 
--- src/refusal.rt:108:14
 offset-of-requires : tie.Need-offset-of-requires
 offset-of-requires c κs = leb-true _ _ (sym (c .before .before .is-near .ensures) ∙ not-false (c .before .before .is-near .result) (c .before .if6 .left))
 
--- src/refusal.rt:108:5
 absolute-requires : tie.Need-absolute-requires
 absolute-requires c κs = search needs
 
--- src/refusal.rt:108:35
 limit-requires : tie.Need-limit-requires
 limit-requires c κs = search needs
 
--- src/refusal.rt:87:1
 returns-7 : tie.Need-returns-7
 returns-7 c =
     let w = c .before .before .before .before .before .before .before .before .before .before .before .before .before .before .before .before .before .args .w in

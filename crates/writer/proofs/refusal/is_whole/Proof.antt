@@ -2,11 +2,9 @@ use mathlib.Core.Path.{refl}
 use Rattle.writer.proofs.refusal.is_whole.Statement.{statement}
 use Rattle.writer.proofs.refusal.is_whole.Tie as tie
 
--- src/refusal.rt:81:9
 returns : tie.Need-returns
 returns c = rw (c .if1 .taken) refl
 
--- src/refusal.rt:77:1
 returns-2 : tie.Need-returns-2
 returns-2 c = rw (c .if1 .left) refl
 

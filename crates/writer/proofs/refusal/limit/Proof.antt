@@ -4,19 +4,15 @@ use borrow.Author.Needs.{needs}
 use Rattle.writer.proofs.refusal.limit.Statement.{statement}
 use Rattle.writer.proofs.refusal.limit.Tie as tie
 
--- src/refusal.rt:70:13
 mul-n : tie.Need-mul-n
 mul-n c = search needs
 
--- src/refusal.rt:72:16
 add-result : tie.Need-add-result
 add-result c = search needs
 
--- src/refusal.rt:72:9
 returns : tie.Need-returns
 returns c = rw (c .if1 .taken) refl
 
--- src/refusal.rt:66:1
 returns-2 : tie.Need-returns-2
 returns-2 c = rw (c .if1 .left) (omega arith)
 

@@ -8,17 +8,14 @@ use Rattle.writer.proofs.Signed.{up, fits-abs, offset-small}
 use Rattle.writer.proofs.refusal.offset_of.Statement.{statement}
 use Rattle.writer.proofs.refusal.offset_of.Tie as tie
 
--- src/refusal.rt:29:6
 add-result : tie.Need-add-result
 add-result c = rw (toZ-ofZ w64 (c .args .d) (c .fits .d), up (c .args .d) (c .pre)) (fits-abs (pos (offset (c .args .d))) (offset-small (c .args .d) (c .pre)))
 
--- src/refusal.rt:29:5
 cast-result : tie.Need-cast-result
 cast-result c =
     rw (toZ-ofZ w64 (c .args .d) (c .fits .d), up (c .args .d) (c .pre), toZ-ofZ w64 (pos (offset (c .args .d))) (fits-abs (pos (offset (c .args .d))) (offset-small (c .args .d) (c .pre))))
     (tt, record { fits = omega (arith, offset-small (c .args .d) (c .pre)) })
 
--- src/refusal.rt:25:1
 returns : tie.Need-returns
 returns c = rw (toZ-ofZ w64 (c .args .d) (c .fits .d), up (c .args .d) (c .pre), toZ-ofZ w64 (pos (offset (c .args .d))) (fits-abs (pos (offset (c .args .d))) (offset-small (c .args .d) (c .pre)))) refl
 

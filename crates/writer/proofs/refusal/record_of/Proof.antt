@@ -6,11 +6,9 @@ use borrow.Author.Needs.{needs}
 use Rattle.writer.proofs.refusal.record_of.Statement.{statement}
 use Rattle.writer.proofs.refusal.record_of.Tie as tie
 
--- src/refusal.rt:55:9
 signed-of-requires : tie.Need-signed-of-requires
 signed-of-requires c κs = search needs
 
--- src/refusal.rt:51:1
 returns : tie.Need-returns
 returns c =
     let a = c .before .args in

@@ -7,11 +7,9 @@ use borrow.Author.Needs.{needs}
 use Rattle.writer.proofs.refusal.run_of.Statement.{statement}
 use Rattle.writer.proofs.refusal.run_of.Tie as tie
 
--- src/refusal.rt:43:9
 offset-of-requires : tie.Need-offset-of-requires
 offset-of-requires c κs = search needs
 
--- src/refusal.rt:39:1
 returns : tie.Need-returns
 returns c =
     let w = c .before .before .args .w in

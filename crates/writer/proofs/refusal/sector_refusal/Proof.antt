@@ -6,40 +6,33 @@ use borrow.Author.Needs.{needs}
 use Rattle.writer.proofs.refusal.sector_refusal.Statement.{statement}
 use Rattle.writer.proofs.refusal.sector_refusal.Tie as tie
 
--- src/refusal.rt:116:9
 returns : tie.Need-returns
 returns c = let a = c .before .args in sector-by (a .w) (a .from) (a .to) false _ _ _ _ (ne-eqb _ _ (c .if1 .taken)) refl refl refl refl
 
--- src/refusal.rt:119:9
 returns-2 : tie.Need-returns-2
 returns-2 c = let a = c .before .before .args in sector-by (a .w) (a .from) (a .to) true false _ _ _ (eq-eqb _ _ (c .before .if1 .left)) (ne-eqb _ _ (c .if2 .taken)) refl refl refl
 
--- src/refusal.rt:121:9
 is-sound-requires : tie.Need-is-sound-requires
 is-sound-requires c κs = search needs
 
--- src/refusal.rt:122:9
 returns-3 : tie.Need-returns-3
 returns-3 c =
     let a = c .before .before .before .before .args in
     sector-by (a .w) (a .from) (a .to) true true false _ _ (eq-eqb _ _ (c .before .before .before .if1 .left)) (eq-eqb _ _ (c .before .before .if2 .left))
     (sym (c .before .is-sound .ensures) ∙ not-true (c .before .is-sound .result) (c .if3 .taken)) refl refl
 
--- src/refusal.rt:125:9
 returns-4 : tie.Need-returns-4
 returns-4 c =
     let a = c .before .before .before .before .before .args in
     sector-by (a .w) (a .from) (a .to) true true true true _ (eq-eqb _ _ (c .before .before .before .before .if1 .left)) (eq-eqb _ _ (c .before .before .before .if2 .left))
     (sym (c .before .before .is-sound .ensures) ∙ not-false (c .before .before .is-sound .result) (c .before .if3 .left)) (c .if4 .taken) refl
 
--- src/refusal.rt:128:9
 returns-5 : tie.Need-returns-5
 returns-5 c =
     let a = c .before .before .before .before .before .before .before .args in
     sector-by (a .w) (a .from) (a .to) true true true false true (eq-eqb _ _ (c .before .before .before .before .before .before .if1 .left)) (eq-eqb _ _ (c .before .before .before .before .before .if2 .left))
     (sym (c .before .before .before .before .is-sound .ensures) ∙ not-false (c .before .before .before .before .is-sound .result) (c .before .before .before .if3 .left)) (c .before .before .if4 .left) (le-leb _ _ (c .if5 .taken))
 
--- src/refusal.rt:112:1
 returns-6 : tie.Need-returns-6
 returns-6 c =
     let a = c .before .before .before .before .before .before .before .args in

@@ -7,15 +7,12 @@ use borrow.Author.Needs.{needs}
 use Rattle.writer.proofs.refusal.signed_of.Statement.{statement}
 use Rattle.writer.proofs.refusal.signed_of.Tie as tie
 
--- src/refusal.rt:36:6
 cast-result : tie.Need-cast-result
 cast-result c = search needs
 
--- src/refusal.rt:36:5
 sub-result : tie.Need-sub-result
 sub-result c = let d = c .args .d in rw (toZ-pos w64 d (omega arith)) (fits-abs (signed d) (signed-small d (c .pre)))
 
--- src/refusal.rt:32:1
 returns : tie.Need-returns
 returns c = let d = c .args .d in rw (toZ-pos w64 d (omega arith)) (toZ-ofZ w64 (signed d) (fits-abs (signed d) (signed-small d (c .pre))))
 

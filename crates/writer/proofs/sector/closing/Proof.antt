@@ -7,22 +7,18 @@ use borrow.Author.Needs.{needs}
 use Rattle.writer.proofs.sector.closing.Statement.{statement}
 use Rattle.writer.proofs.sector.closing.Tie as tie
 
--- src/sector.rt:95:13
 sync-table-requires : tie.Need-sync-table-requires
 sync-table-requires c κs = search needs
 
 level-table-requires : tie.Need-level-table-requires
 level-table-requires c κs = search needs
 
--- src/sector.rt:96:9
 lay-sync-requires : tie.Need-lay-sync-requires
 lay-sync-requires c κs = search needs
 
--- src/sector.rt:91:1
 same-length : tie.Need-same-length
 same-length c = search needs
 
--- src/sector.rt:91:1
 returns : tie.Need-returns
 returns c =
     let a = c .before .before .before .before .before .before .before .before .before .before in

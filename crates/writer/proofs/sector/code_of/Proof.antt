@@ -7,11 +7,9 @@ use borrow.Author.Needs.{needs}
 use Rattle.writer.proofs.sector.code_of.Statement.{statement}
 use Rattle.writer.proofs.sector.code_of.Tie as tie
 
--- src/sector.rt:43:5
 element-copy-out-result : tie.Need-element-copy-out-result
 element-copy-out-result c = search needs
 
--- src/sector.rt:39:1
 returns : tie.Need-returns
 returns c =
     let f = c .before .args .f in

@@ -3,7 +3,6 @@ use Rattle.channel.specs.Block.{frameCodes}
 use Rattle.writer.proofs.sector.codes.Statement.{statement}
 use Rattle.writer.proofs.sector.codes.Tie as tie
 
--- src/sector.rt:32:1
 returns : tie.Need-returns
 unfolding frameCodes
 returns c = refl

@@ -13,39 +13,30 @@ Inv-loop m u y v bytes s1₀ s2₀ out₀ codes run₀ k₀ s1 s2 out run k = (k
 abbrev μ-loop : tie.MeasureT-loop
 μ-loop m u y v bytes s1₀ s2₀ out₀ codes run₀ k₀ s1 s2 out run k = 26 - k
 
--- src/sector.rt:63:17
 codes-requires : tie.Need-codes-requires Inv-loop μ-loop
 codes-requires c κs = tt
 
--- src/sector.rt:65:5
 loop-holds : tie.Need-loop-holds Inv-loop μ-loop
 loop-holds c = let g = c .before .before .before .before .before .pre .1 .1 .1 .1 in (omega arith, (g .1 .0, (g .1 .1, (g .0 .whole, laying-none _ _ _))))
 
--- src/sector.rt:66:17
 mul-a : tie.Need-mul-a Inv-loop μ-loop
 mul-a c = omega arith
 
--- src/sector.rt:67:17
 add-e : tie.Need-add-e Inv-loop μ-loop
 add-e c = omega arith
 
--- src/sector.rt:68:13
 code-of-requires : tie.Need-code-of-requires Inv-loop μ-loop
 code-of-requires c κs = (c .before .before .before .codes .ensures, omega arith)
 
--- src/sector.rt:69:40
 sub-frame : tie.Need-sub-frame Inv-loop μ-loop
 sub-frame c = omega arith
 
--- src/sector.rt:69:40
 part-frame-start : tie.Need-part-frame-start Inv-loop μ-loop
 part-frame-start c = omega arith
 
--- src/sector.rt:69:40
 part-frame-end : tie.Need-part-frame-end Inv-loop μ-loop
 part-frame-end c = omega (arith, c .before .before .before .before .before .before .before .before .before .pre .1 .1 .1 .1 .0 .bytes)
 
--- src/sector.rt:69:13
 frame-requires : tie.Need-frame-requires Inv-loop μ-loop
 frame-requires c κs =
     let a = c .before .before .before .before .before .before .before .before .before .before .before .before in
@@ -73,27 +64,21 @@ frame-requires c κs =
       ),
     )
 
--- src/sector.rt:70:13
 select-requires : tie.Need-select-requires Inv-loop μ-loop
 select-requires c κs = (omega arith, omega arith)
 
--- src/sector.rt:71:32
 mul-paste : tie.Need-mul-paste Inv-loop μ-loop
 mul-paste c = omega arith
 
--- src/sector.rt:71:9
 paste-requires : tie.Need-paste-requires Inv-loop μ-loop
 paste-requires c κs = (selected (c .before .before .before .before .before .before .before .before .frame .result .first) _ _ _ (c .before .select .ensures) (omega arith) (omega arith), omega arith)
 
--- src/sector.rt:65:9
 add-k : tie.Need-add-k Inv-loop μ-loop
 add-k c = omega arith
 
--- src/sector.rt:65:5
 loop-less : tie.Need-loop-less Inv-loop μ-loop
 loop-less c = omega arith
 
--- src/sector.rt:65:5
 loop-again : tie.Need-loop-again Inv-loop μ-loop
 loop-again c =
     let a = c .before .before .before .before .before .before .before .before .before .before .before .before .before .before .before .before .before .before .before .before .before .before .before .before .before in
@@ -114,19 +99,15 @@ loop-again c =
       ),
     )
 
--- src/sector.rt:59:1
 same-length : tie.Need-same-length Inv-loop μ-loop
 same-length c = omega (arith, c .before .before .before .before .before .before .before .pre .1 .1 .1 .1 .1 .0)
 
--- src/sector.rt:59:1
 same-length-2 : tie.Need-same-length-2 Inv-loop μ-loop
 same-length-2 c = omega (arith, c .before .before .before .before .before .before .before .pre .1 .1 .1 .1 .1 .1)
 
--- src/sector.rt:59:1
 same-length-3 : tie.Need-same-length-3 Inv-loop μ-loop
 same-length-3 c = omega (arith, c .before .before .before .before .before .before .before .pre .1 .1 .1 .1 .0 .whole)
 
--- src/sector.rt:59:1
 returns : tie.Need-returns Inv-loop μ-loop
 returns c = let v = c .before .loop .inv in laying-all (c .before .before .before .before .before .before .before .args .r) _ (c .before .before .before .before .before .before .before .args .bytes .now) _ (c .before .loop .k) (omega arith) (v .1 .1 .1 .0) (v .1 .1 .1 .1)
 

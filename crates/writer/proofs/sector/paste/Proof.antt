@@ -14,42 +14,33 @@ Inv-loop from to₀ at j₀ to j = (j ≤ 186) × ((length to ≡ length to₀) 
 abbrev μ-loop : tie.MeasureT-loop
 μ-loop from to₀ at j₀ to j = 186 - j
 
--- src/lib.rt:524:5
 loop-holds : tie.Need-loop-holds Inv-loop μ-loop
 loop-holds c = (omega arith, (refl, paste-start (c .args .from .now) (c .args .to .now) (c .args .at)))
 
--- src/lib.rt:525:22
 shared-slice-read-to : tie.Need-shared-slice-read-to Inv-loop μ-loop
 shared-slice-read-to c = omega arith
 
--- src/lib.rt:525:12
 add-to : tie.Need-add-to Inv-loop μ-loop
 add-to c = omega arith
 
--- src/lib.rt:525:9
 slice-write-to : tie.Need-slice-write-to Inv-loop μ-loop
 slice-write-to c = omega arith
 
--- src/lib.rt:526:9
 add-j : tie.Need-add-j Inv-loop μ-loop
 add-j c = omega arith
 
--- src/lib.rt:524:5
 loop-less : tie.Need-loop-less Inv-loop μ-loop
 loop-less c = omega arith
 
--- src/lib.rt:524:5
 loop-again : tie.Need-loop-again Inv-loop μ-loop
 loop-again c =
     let v = c .before .before .loop .inv in
     let a = c .before .before .before .args in
     (omega arith, (simp length-set (v .1 .0), paste-step (a .from .now) (a .to .now) (c .before .before .loop .to) (a .at) (c .before .before .loop .j) (omega arith) (omega arith) (v .1 .1)))
 
--- src/lib.rt:519:1
 same-length : tie.Need-same-length Inv-loop μ-loop
 same-length c = search needs
 
--- src/lib.rt:519:1
 returns : tie.Need-returns Inv-loop μ-loop
 returns c = let v = c .before .loop .inv in let a = c .before .before .args in paste-all (a .from .now) (a .to .now) (c .before .loop .to) (a .at) (c .before .loop .j) (omega arith) (c .before .before .pre .0) (v .1 .1)
 
