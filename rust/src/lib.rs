@@ -13,7 +13,8 @@
 //! assert_eq!(read.first, 0x03_0000);
 //! # Ok::<(), chamanzil::Refusal>(())
 //! ```
-mod raw;
+#[doc(hidden)]
+pub mod raw;
 mod refusal;
 pub mod slices;
 mod words;

@@ -1,4 +1,5 @@
-//! The C boundary, declared as `crates/ffi/src` has it: a slice is a pointer and a length.
+//! The C boundary, declared as `crates/ffi/src` has it: a slice is a pointer and a length. The tests and the bench of the repository use it too, to see every
+//! number that a call leaves; programs use the safe functions.
 
 extern "C" {
     pub fn chamanzil_product(a: u8, b: u8) -> u8;

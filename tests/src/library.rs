@@ -1,52 +1,8 @@
-//! The proved library, through the C boundary of crate `ffi`: a `&[u8]` passes as a pointer and a length. The numbers are those of
-//! crates/ffi/specs/Answers.antt.
+//! The proved library, through the C boundary of crate `ffi` as the crate `chamanzil` of rust/ declares it: a `&[u8]` passes as a pointer and a length. The
+//! numbers are those of crates/ffi/specs/Answers.antt.
 use crate::rs::Fate;
 use crate::writing::Record;
-
-extern "C" {
-    fn chamanzil_product(a: u8, b: u8) -> u8;
-    fn chamanzil_power(a: u8, n: u64) -> u8;
-    fn chamanzil_ied(id: *const u8, id_len: usize, out: *mut u8, out_len: usize) -> u32;
-    fn chamanzil_row_parity(data: *const u8, data_len: usize, out: *mut u8, out_len: usize) -> u32;
-    fn chamanzil_column_parity(
-        data: *const u8,
-        data_len: usize,
-        out: *mut u8,
-        out_len: usize,
-    ) -> u32;
-    fn chamanzil_correct_row(row: *mut u8, row_len: usize) -> u32;
-    fn chamanzil_correct_column(column: *mut u8, column_len: usize) -> u32;
-    fn chamanzil_encode_block(
-        main: *const u8,
-        main_len: usize,
-        first: u32,
-        info: u8,
-        out: *mut u8,
-        out_len: usize,
-    ) -> u32;
-    fn chamanzil_write_sector(
-        state: *mut u8,
-        level: *mut u8,
-        dsv: *mut i64,
-        sectors: *mut u32,
-        closed: *mut bool,
-        bytes: *const u8,
-        bytes_len: usize,
-        out: *mut u8,
-        out_len: usize,
-    ) -> u32;
-    fn chamanzil_close(
-        state: *mut u8,
-        level: *mut u8,
-        dsv: *mut i64,
-        sectors: *mut u32,
-        closed: *mut bool,
-        out: *mut u8,
-        out_len: usize,
-    ) -> u32;
-    fn chamanzil_read_word(word: u16, following: u16) -> u32;
-    fn chamanzil_runs_hold(stream: *const u8, stream_len: usize) -> u32;
-}
+use chamanzil::raw::*;
 
 pub fn product(a: u8, b: u8) -> u8 {
     unsafe { chamanzil_product(a, b) }
@@ -129,35 +85,6 @@ pub fn close(record: &mut Record, out: &mut [u8]) -> u32 {
             out.len(),
         )
     }
-}
-
-extern "C" {
-    fn chamanzil_read_sector(
-        stream: *const u8,
-        stream_len: usize,
-        out: *mut u8,
-        out_len: usize,
-        report: *mut u32,
-        report_len: usize,
-    ) -> u32;
-    fn chamanzil_repair_block(
-        block: *mut u8,
-        block_len: usize,
-        main: *mut u8,
-        main_len: usize,
-        report: *mut u32,
-        report_len: usize,
-    ) -> u32;
-    fn chamanzil_read_block(
-        stream: *const u8,
-        stream_len: usize,
-        block: *mut u8,
-        block_len: usize,
-        main: *mut u8,
-        main_len: usize,
-        report: *mut u32,
-        report_len: usize,
-    ) -> u32;
 }
 
 pub fn read_sector(stream: &[u8], out: &mut [u8], report: &mut [u32]) -> u32 {
