@@ -1,7 +1,7 @@
 //! The speed of the proved library beside libfec, one thread, as MB/s of main data and as ratios. `bench/run` builds and runs it.
 //! Nothing is cleared but what a call would find changed: before each call of the repairer the damaged block is copied into the block buffer anew, before
-//! libfec's decoding too, and that copy is not timed. Tables that a call needs are made within it, as for a user. Caches are warm: a figure is the best of 15
-//! rounds of 12 calls.
+//! libfec's decoding too, and that copy is not timed. Tables that a call needs are made within it, as for a user. Caches are warm: a figure is the best of 25
+//! rounds of 12 calls, and where two are compared their rounds take turns.
 #![allow(dead_code)]
 #[path = "../../tests/src/gf.rs"]
 mod gf;
@@ -20,7 +20,7 @@ mod writing;
 
 use peer::Peer;
 use random::Random;
-use timing::{rate, seconds};
+use timing::{beside, rate, seconds};
 use writing::{Record, LAID, SECTOR};
 
 const MAIN: usize = 32_768;
@@ -93,12 +93,11 @@ impl Bench {
     /// The repair of `given`, ours and libfec's, and whether both give the main rows and columns back.
     fn repairs(&mut self) -> [f64; 2] {
         let anew = |b: &mut Bench| b.work.copy_from_slice(&b.given);
-        let ours = seconds(self, anew, Bench::repair);
-        assert!(self.out == self.main, "the repair differs");
-        let theirs = seconds(self, anew, |b| b.peer.decode(&mut b.work));
+        let times = beside(self, anew, Bench::repair, |b| b.peer.decode(&mut b.work));
         let data = |block: &[u8]| -> Vec<u8> { block.chunks(182).flat_map(|r| r[..172].to_vec()).collect() };
+        assert!(self.out == self.main, "the repair differs");
         assert!(data(&self.work) == data(&self.block), "libfec's repair differs");
-        [ours, theirs]
+        times
     }
 
     /// `count` wrong bytes in each row.
@@ -130,13 +129,11 @@ fn table(b: &mut Bench, random: &mut Random) {
     println!("| work | MB/s of main data | libfec, MB/s | times libfec |");
     println!("|---|---|---|---|");
     let nothing = |_: &mut Bench| {};
-    let ours = seconds(b, nothing, |b| encode(&b.main, &mut b.work));
-    assert!(b.work == b.block);
-    let theirs = seconds(b, nothing, |b| b.peer.parity(&mut b.work));
-    assert!(b.work == b.block, "libfec's parity differs");
+    let [ours, theirs] = beside(b, nothing, |b| encode(&b.main, &mut b.work), |b| b.peer.parity(&mut b.work));
+    assert!(b.work == b.block, "a parity differs");
     line("block maker", ours, Some(("parity", theirs)));
-    line("sector writer and closing", seconds(b, nothing, |b| write(&b.block, &mut b.laid)), None);
-    line("sector reader, clean stream", seconds(b, nothing, |b| read_sectors(&b.stream, &mut b.work)), None);
+    line("sector writer and closing", seconds(b, |b| write(&b.block, &mut b.laid)), None);
+    line("sector reader, clean stream", seconds(b, |b| read_sectors(&b.stream, &mut b.work)), None);
     let [ours, theirs] = b.repairs();
     line("repair, clean block", ours, Some(("decoding", theirs)));
     for count in 1..6 {
@@ -148,7 +145,7 @@ fn table(b: &mut Bench, random: &mut Random) {
     let [ours, theirs] = b.repairs();
     line("repair, 8 dead rows", ours, Some(("decoding", theirs)));
     let stream = b.stream.clone();
-    line("whole chain, clean stream", seconds(b, nothing, |b| b.read(&stream)), None);
+    line("whole chain, clean stream", seconds(b, |b| b.read(&stream)), None);
     assert!(b.out == b.main);
 }
 
@@ -158,9 +155,8 @@ fn growth(b: &mut Bench, random: &mut Random) {
     println!("| sectors | writer, µs | reader, µs |");
     println!("|---|---|---|");
     for n in [1, 2, 4, 8, 16] {
-        let nothing = |_: &mut Bench| {};
-        let writer = seconds(b, nothing, |b| write(&b.block[..SECTOR * n], &mut b.laid));
-        let reader = seconds(b, nothing, |b| read_sectors(&b.stream, &mut b.work[..SECTOR * n]));
+        let writer = seconds(b, |b| write(&b.block[..SECTOR * n], &mut b.laid));
+        let reader = seconds(b, |b| read_sectors(&b.stream, &mut b.work[..SECTOR * n]));
         println!("| {n} | {:.0} | {:.0} |", 1e6 * writer, 1e6 * reader);
     }
     println!();
