@@ -4,7 +4,7 @@
  * anything undefined, and to return; the contracts cite definitions taken from the standard and from document 01. This file repeats them in words.
  *
  * Buffers. A buffer is two arguments: a pointer to its first byte and its length. A pointer is never NULL, not even where the length is 0. A buffer that is
- * written (no `const`) overlaps no other argument. What was written is all of a buffer or nothing: no call leaves a half-filled buffer.
+ * written (no `const`) overlaps no other argument; nor does a record. What was written is all of a buffer or nothing: no call leaves a half-filled buffer.
  *
  * Answers. 0: done. 1 to 9: refused, by the numbers below, and then every buffer and record is as it was, except where a function says otherwise. Where
  * several numbers apply, the lowest is given, but 9 goes before 7 and 8. Where none applies, nothing is refused.
@@ -70,16 +70,28 @@ uint32_t chamanzil_encode_block(const uint8_t *main, size_t main_len, uint32_t f
  * After 0 `out` holds the sixteen sectors and the closing code; after a refusal it is as it was. */
 uint32_t chamanzil_format_block(const uint8_t *main, size_t main_len, uint32_t first, uint8_t info, uint8_t *out, size_t out_len);
 
-/* The writer's record, in five numbers that the caller keeps from call to call: the State prescribed next (1 to 4), the NRZI level (0 or 1), the DSV, the
- * sectors written and whether the closing code is written. A new record is 1, 0, 0, 0, false. A `bool` holds 0 or 1 and nothing else. */
+/* The writer's record. The caller keeps it for as long as the writer runs and lends it to each call, by a pointer that is never NULL. A call that answers 0
+ * leaves the next record there, and a refusal leaves it as it was. The members may be read, kept elsewhere and put back at any time: a record that no writer
+ * hands out is refused with 9. `closed` holds 0 or 1 and nothing else. The bytes between the members have no meaning: compare members. */
+struct chamanzil_record {
+    uint8_t state;    /* the State prescribed next, 1 to 4 */
+    uint8_t level;    /* the NRZI level, 0 or 1 */
+    int64_t dsv;      /* the Digital Sum Value so far */
+    uint32_t sectors; /* sectors written, 0 to 16 */
+    bool closed;      /* whether the closing code is written */
+};
+
+/* The record before the first sector: State 1, level 0, DSV 0, no sector, not closed. What `kept` held does not matter, but for `closed`, which holds 0 or 1
+ * as always. */
+void chamanzil_new_record(struct chamanzil_record *kept);
 
 /* A sector by the two-stream rule of clause 22. `bytes` has CHAMANZIL_SECTOR bytes (sector k of a block starts at byte 2366 k), `out` CHAMANZIL_SECTOR_BITS.
- * 0, 1, 7 or 9. After 0 `out` holds the sector's code bits, eight to a byte, first bit highest, and the record is the next one. After a refusal `out` and the
- * record are as they were. */
-uint32_t chamanzil_write_sector(uint8_t *state, uint8_t *level, int64_t *dsv, uint32_t *sectors, bool *closed, const uint8_t *bytes, size_t bytes_len, uint8_t *out, size_t out_len);
+ * 0, 1, 7 or 9. After 0 `out` holds the sector's code bits, eight to a byte, first bit highest, and `kept` the next record. After a refusal both are as they
+ * were. */
+uint32_t chamanzil_write_sector(struct chamanzil_record *kept, const uint8_t *bytes, size_t bytes_len, uint8_t *out, size_t out_len);
 
-/* The closing code after the sixteenth sector. `out` has CHAMANZIL_CLOSING bytes. 0, 1, 7, 8 or 9, with `out` and the record as above. */
-uint32_t chamanzil_close(uint8_t *state, uint8_t *level, int64_t *dsv, uint32_t *sectors, bool *closed, uint8_t *out, size_t out_len);
+/* The closing code after the sixteenth sector. `out` has CHAMANZIL_CLOSING bytes. 0, 1, 7, 8 or 9, with `out` and `kept` as above. */
+uint32_t chamanzil_close(struct chamanzil_record *kept, uint8_t *out, size_t out_len);
 
 /* ---- from a stream back to main data */
 

@@ -21,28 +21,21 @@ static void expect(bool holds, const char *what)
     }
 }
 
-/* The writer's five numbers. */
-struct record {
-    uint8_t state;
-    uint8_t level;
-    int64_t dsv;
-    uint32_t sectors;
-    bool closed;
-};
-
 /* Block maker, sixteen sectors, closing code. */
 static void format(uint32_t first, uint8_t info)
 {
-    struct record w = {1, 0, 0, 0, false};
+    struct chamanzil_record kept = {0, 0, 0, 0, false};
     size_t k;
+    chamanzil_new_record(&kept);
+    expect(kept.state == 1 && kept.level == 0 && kept.dsv == 0 && kept.sectors == 0 && !kept.closed, "a new record");
     expect(chamanzil_encode_block(main_data, sizeof main_data, first, info, block, sizeof block) == CHAMANZIL_DONE, "encode_block");
     for (k = 0; k < 16; k++) {
-        uint32_t answer = chamanzil_write_sector(&w.state, &w.level, &w.dsv, &w.sectors, &w.closed, block + k * CHAMANZIL_SECTOR, CHAMANZIL_SECTOR,
-            stream + k * CHAMANZIL_SECTOR_BITS, CHAMANZIL_SECTOR_BITS);
-        expect(answer == CHAMANZIL_DONE, "write_sector");
+        uint32_t answer = chamanzil_write_sector(&kept, block + k * CHAMANZIL_SECTOR, CHAMANZIL_SECTOR, stream + k * CHAMANZIL_SECTOR_BITS, CHAMANZIL_SECTOR_BITS);
+        expect(answer == CHAMANZIL_DONE && kept.sectors == k + 1, "write_sector");
     }
-    expect(chamanzil_close(&w.state, &w.level, &w.dsv, &w.sectors, &w.closed, stream + 16 * CHAMANZIL_SECTOR_BITS, CHAMANZIL_CLOSING) == CHAMANZIL_DONE, "close");
-    expect(w.sectors == 16 && w.closed, "the record after closing");
+    expect(chamanzil_close(&kept, stream + 16 * CHAMANZIL_SECTOR_BITS, CHAMANZIL_CLOSING) == CHAMANZIL_DONE, "close");
+    expect(kept.sectors == 16 && kept.closed, "the record after closing");
+    expect(chamanzil_close(&kept, stream + 16 * CHAMANZIL_SECTOR_BITS, CHAMANZIL_CLOSING) == CHAMANZIL_ENDED, "closing twice");
 }
 
 int main(void)

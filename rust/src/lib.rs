@@ -86,6 +86,8 @@ pub fn format_block(main: &[u8; MAIN], first: u32, info: u8) -> Result<Box<[u8; 
 }
 
 /// The writer's record: the State prescribed next, the NRZI level, the DSV, the sectors written, and whether the closing code is written.
+/// It lies in memory as `crates/writer` and C have it.
+#[repr(C)]
 #[derive(Clone, Copy, Debug, PartialEq, Eq, Hash)]
 pub struct Record {
     /// 1 to 4.

@@ -1,5 +1,6 @@
 //! The C boundary, declared as `crates/ffi/src` has it: a slice is a pointer and a length. The tests and the bench of the repository use it too, to see every
 //! number that a call leaves; programs use the safe functions.
+use crate::Record;
 
 extern "C" {
     pub fn chamanzil_product(a: u8, b: u8) -> u8;
@@ -37,26 +38,15 @@ extern "C" {
         out: *mut u8,
         out_len: usize,
     ) -> u32;
+    pub fn chamanzil_new_record(kept: *mut Record);
     pub fn chamanzil_write_sector(
-        state: *mut u8,
-        level: *mut u8,
-        dsv: *mut i64,
-        sectors: *mut u32,
-        closed: *mut bool,
+        kept: *mut Record,
         bytes: *const u8,
         bytes_len: usize,
         out: *mut u8,
         out_len: usize,
     ) -> u32;
-    pub fn chamanzil_close(
-        state: *mut u8,
-        level: *mut u8,
-        dsv: *mut i64,
-        sectors: *mut u32,
-        closed: *mut bool,
-        out: *mut u8,
-        out_len: usize,
-    ) -> u32;
+    pub fn chamanzil_close(kept: *mut Record, out: *mut u8, out_len: usize) -> u32;
     pub fn chamanzil_read_sector(
         stream: *const u8,
         stream_len: usize,

@@ -38,20 +38,9 @@ pub fn format_block(main: &[u8], first: u32, info: u8, out: &mut [u8]) -> Result
 /// # Errors
 /// 1, 9 or 7, with `record` and `out` as they were.
 pub fn write_sector(record: &mut Record, bytes: &[u8], out: &mut [u8]) -> Result<(), Refusal> {
-    let r = record;
-    let number = unsafe {
-        raw::chamanzil_write_sector(
-            &mut r.state,
-            &mut r.level,
-            &mut r.dsv,
-            &mut r.sectors,
-            &mut r.closed,
-            bytes.as_ptr(),
-            bytes.len(),
-            out.as_mut_ptr(),
-            out.len(),
-        )
-    };
+    let (to, size) = (out.as_mut_ptr(), out.len());
+    let number =
+        unsafe { raw::chamanzil_write_sector(record, bytes.as_ptr(), bytes.len(), to, size) };
     answer(number, 0)
 }
 
@@ -60,18 +49,7 @@ pub fn write_sector(record: &mut Record, bytes: &[u8], out: &mut [u8]) -> Result
 /// # Errors
 /// 1, 9, 7 or 8, with `record` and `out` as they were.
 pub fn close(record: &mut Record, out: &mut [u8]) -> Result<(), Refusal> {
-    let r = record;
-    let number = unsafe {
-        raw::chamanzil_close(
-            &mut r.state,
-            &mut r.level,
-            &mut r.dsv,
-            &mut r.sectors,
-            &mut r.closed,
-            out.as_mut_ptr(),
-            out.len(),
-        )
-    };
+    let number = unsafe { raw::chamanzil_close(record, out.as_mut_ptr(), out.len()) };
     answer(number, 0)
 }
 

@@ -55,36 +55,46 @@ pub fn runs_hold(stream: &[u8]) -> bool {
     unsafe { chamanzil_runs_hold(stream.as_ptr(), stream.len()) == 1 }
 }
 
-pub fn write_sector(record: &mut Record, bytes: &[u8], out: &mut [u8]) -> u32 {
-    let r = record;
-    unsafe {
-        chamanzil_write_sector(
-            &mut r.state,
-            &mut r.level,
-            &mut r.dsv,
-            &mut r.sectors,
-            &mut r.closed,
-            bytes.as_ptr(),
-            bytes.len(),
-            out.as_mut_ptr(),
-            out.len(),
-        )
+/// The second implementation's record as the library keeps it, and back: member by member.
+fn kept(r: &Record) -> chamanzil::Record {
+    chamanzil::Record {
+        state: r.state,
+        level: r.level,
+        dsv: r.dsv,
+        sectors: r.sectors,
+        closed: r.closed,
     }
 }
 
-pub fn close(record: &mut Record, out: &mut [u8]) -> u32 {
-    let r = record;
-    unsafe {
-        chamanzil_close(
-            &mut r.state,
-            &mut r.level,
-            &mut r.dsv,
-            &mut r.sectors,
-            &mut r.closed,
-            out.as_mut_ptr(),
-            out.len(),
-        )
+fn record_of(r: chamanzil::Record) -> Record {
+    Record {
+        state: r.state,
+        level: r.level,
+        dsv: r.dsv,
+        sectors: r.sectors,
+        closed: r.closed,
     }
+}
+
+/// What the library leaves of any old record.
+pub fn new_record(old: &Record) -> Record {
+    let mut r = kept(old);
+    unsafe { chamanzil_new_record(&mut r) };
+    record_of(r)
+}
+
+pub fn write_sector(record: &mut Record, bytes: &[u8], out: &mut [u8]) -> u32 {
+    let mut r = kept(record);
+    let answer = unsafe { chamanzil_write_sector(&mut r, bytes.as_ptr(), bytes.len(), out.as_mut_ptr(), out.len()) };
+    *record = record_of(r);
+    answer
+}
+
+pub fn close(record: &mut Record, out: &mut [u8]) -> u32 {
+    let mut r = kept(record);
+    let answer = unsafe { chamanzil_close(&mut r, out.as_mut_ptr(), out.len()) };
+    *record = record_of(r);
+    answer
 }
 
 pub fn read_sector(stream: &[u8], out: &mut [u8], report: &mut [u32]) -> u32 {

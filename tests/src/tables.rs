@@ -1,4 +1,4 @@
-//! Annex G and the SYNC Codes of table 4, from the project's data. They are common to both implementations; everything else is not.
+//! Annex G and the SYNC Codes of table 4, from data/tables.tsv. They are common to both implementations; everything else is not.
 
 #[derive(Clone, Copy, Debug, PartialEq, Eq)]
 pub struct Entry {
@@ -24,11 +24,12 @@ impl Tables {
             sub: Vec::new(),
             sync: [[[0; 2]; 8]; 2],
         };
-        for line in include_str!("../data/annex-g.tsv").lines().skip(1) {
-            t.add_word_line(&line.split('\t').collect::<Vec<_>>());
-        }
-        for line in include_str!("../data/sync-codes.tsv").lines().skip(1) {
-            t.add_sync_line(&line.split('\t').collect::<Vec<_>>());
+        for line in include_str!("../../data/tables.tsv").lines().filter(|l| !l.starts_with('#')) {
+            let cells: Vec<&str> = line.split('\t').collect();
+            match cells[0] {
+                "4" => t.add_sync_line(&cells),
+                _ => t.add_word_line(&cells),
+            }
         }
         assert!(t.main.len() == 256 && t.sub.len() == 88);
         t
@@ -36,12 +37,12 @@ impl Tables {
 
     fn add_word_line(&mut self, cells: &[&str]) {
         let entry = |k: usize| Entry {
-            word: u16::from_str_radix(cells[2 + 2 * k], 16).unwrap(),
+            word: u16::from_str_radix(cells[2 + 2 * k], 2).unwrap(),
             next: cells[3 + 2 * k].parse().unwrap(),
         };
         let row = [entry(0), entry(1), entry(2), entry(3)];
         let table = match cells[0] {
-            "main" => &mut self.main,
+            "G.1" => &mut self.main,
             _ => &mut self.sub,
         };
         assert_eq!(cells[1].parse::<usize>().unwrap(), table.len());
@@ -49,12 +50,12 @@ impl Tables {
     }
 
     fn add_sync_line(&mut self, cells: &[&str]) {
-        let number: usize = cells[0][2..].parse().unwrap();
-        let class = usize::from(cells[1] == "3-4");
+        let number: usize = cells[1][2..].parse().unwrap();
+        let class = usize::from(cells[2] == "3-4");
         for k in 0..2 {
-            let code = u32::from_str_radix(cells[2 + k], 16).unwrap();
-            assert_eq!(code as u16, SYNC_END);
-            self.sync[class][number][k] = (code >> 16) as u16;
+            let halves: Vec<u16> = cells[3 + k].split(' ').map(|h| u16::from_str_radix(h, 2).unwrap()).collect();
+            assert_eq!(halves[1], SYNC_END);
+            self.sync[class][number][k] = halves[0];
         }
     }
 

@@ -126,7 +126,7 @@ fn odd_record(random: &mut Random) -> Record {
     }
 }
 
-/// Records in and out of range, and lengths: the number, and everything left as it was.
+/// Records in and out of range, and lengths: the number, and everything left as it was; and a new record after each.
 pub fn refusals(report: &mut Report, random: &mut Random, count: usize) {
     report.begin("writer: refusals");
     for _ in 0..count {
@@ -144,6 +144,7 @@ pub fn refusals(report: &mut Report, random: &mut Random, count: usize) {
         let answer = library::close(&mut ours, &mut out);
         let is_left = ours == record && out.iter().all(|&b| b == 0xA5);
         report.check(answer == due && (due == 0 || is_left), || format!("closing {record:?} {to}: {answer} for {due}"));
+        report.check(library::new_record(&record) == Record::start(), || format!("new after {record:?}"));
     }
     report.end();
 }

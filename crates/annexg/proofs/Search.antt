@@ -1,6 +1,6 @@
 -- The tables' lengths, a rule of both tables at each entry, and the search through them, entry by entry.
 -- Assumes nothing.
-use mathlib.Core.Path.{_≡_, refl, sym, ap}
+use mathlib.Core.Path.{_≡_, refl, sym}
 use mathlib.Core.Bool.{Bool, true, false}
 use mathlib.Core.List.{List}
 use Prim.Native.Nat.{ℕ, zero, suc, _+_, _*_, _/_, _%_, _<_, _≤_}
@@ -11,7 +11,7 @@ use lib.ListN.{length, getD, drop, drop-of-length-le, List·getD-eq-default}
 use lib.Seq.{drop-cons}
 use Rattle.lists.specs.Test.{every}
 use Rattle.lists.proofs.Test.{every-at}
-use Rattle.annexg.specs.Read.{tableOf, entryOf, fitsOf, firstFit, readGiven}
+use Rattle.annexg.specs.Read.{tableOf, entryOf, fitsOf, firstFit, readGiven, readFrom}
 use Rattle.annexg.specs.Tables.{mainTable, subTable}
 use Rattle.annexg.specs.declared.Reading.{Reading}
 use Rattle.annexg.specs.declared.Reading.the-variants.{Byte, Unknown}
@@ -64,34 +64,45 @@ sub-read u t k h e = rw (e, sub-is t h)
 pub sub-past : (t k : ℕ) → (t ≡ 0 → ⊥) → 352 ≤ k → 0 ≡ getD (tableOf t) k 0
 sub-past t k h l = rw (sub-is t h) (sym (List·getD-eq-default (tableOf 1) 0 (omega (arith, length-sub))))
 
--- ---- the search: what is left of it from entry k of table t on
+-- ---- the search from entry k of table t on
 
-module _ (w : ℕ) (q : Bool) where
-  -- the whole tables from table t on
-  abbrev pub from : ℕ → Reading
-  from zero = readGiven w q
-  from (suc zero) = firstFit w q (tableOf 1) 0 Unknown
-  from (suc (suc t)) = Unknown
+module _ (w : ℕ) (z : Bool) where
+  first-unfit : (l : List ℕ) (k : ℕ) (d : Reading) → k < length l → fitsOf w z (getD l k 0) ≡ false → firstFit w z (drop k l) k d ≡ firstFit w z (drop (suc k) l) (suc k) d
+  unfolding firstFit
+  first-unfit l k d h e = rw (drop-cons l k 0 h, firstFit, e)
 
-  -- table t from entry k on, and the tables after it
-  unfoldable pub rest : ℕ → ℕ → Reading
-  rest t k = firstFit w q (drop k (tableOf t)) k (from (suc t))
+  first-fit : (l : List ℕ) (k : ℕ) (d : Reading) → k < length l → fitsOf w z (getD l k 0) ≡ true → firstFit w z (drop k l) k d ≡ Byte (k / 4)
+  unfolding firstFit
+  first-fit l k d h e = rw (drop-cons l k 0 h, firstFit, e)
 
-  pub start : (t : ℕ) → t < 2 → from t ≡ rest t 0
-  unfolding rest readGiven
-  start t h = each-table (λ (x : ℕ). from x ≡ rest x 0) refl refl t h
+  first-none : (l : List ℕ) (k : ℕ) (d : Reading) → length l ≤ k → firstFit w z (drop k l) k d ≡ d
+  unfolding firstFit
+  first-none l k d h = rw (drop-of-length-le l h)
 
-  pub pass : (t k : ℕ) → k < length (tableOf t) → fitsOf w q (getD (tableOf t) k 0) ≡ false → rest t k ≡ rest t (suc k)
-  unfolding rest firstFit
-  pass t k h e = rw (drop-cons (tableOf t) k 0 h, firstFit, e)
+  pub from-first : readFrom w z 0 0 ≡ readGiven w z
+  unfolding readFrom readGiven
+  from-first = refl
 
-  pub hit : (t k : ℕ) → k < length (tableOf t) → fitsOf w q (getD (tableOf t) k 0) ≡ true → rest t k ≡ Byte (k / 4)
-  unfolding rest firstFit
-  hit t k h e = rw (drop-cons (tableOf t) k 0 h, firstFit, e)
+  pub from-unfit : (t k : ℕ) → t < 2 → k < length (tableOf t) → fitsOf w z (getD (tableOf t) k 0) ≡ false → readFrom w z t k ≡ readFrom w z t (suc k)
+  unfolding readFrom
+  from-unfit zero k ht h e = first-unfit (tableOf 0) k (firstFit w z (tableOf 1) 0 Unknown) h e
+  from-unfit (suc zero) k ht h e = first-unfit (tableOf 1) k Unknown h e
+  from-unfit (suc (suc t)) k ht h e = refl
 
-  pub over : (t k : ℕ) → length (tableOf t) ≤ k → rest t k ≡ from (suc t)
-  unfolding rest firstFit
-  over t k h = rw (drop-of-length-le (tableOf t) h)
+  pub from-fit : (t k : ℕ) → t < 2 → k < length (tableOf t) → fitsOf w z (getD (tableOf t) k 0) ≡ true → readFrom w z t k ≡ Byte (k / 4)
+  unfolding readFrom
+  from-fit zero k ht h e = first-fit (tableOf 0) k (firstFit w z (tableOf 1) 0 Unknown) h e
+  from-fit (suc zero) k ht h e = first-fit (tableOf 1) k Unknown h e
+  from-fit (suc (suc t)) k ht h e = absurd (omega arith)
 
-  pub moved : (t : ℕ) {j k : ℕ} → j ≡ k → rest t j ≡ rest t k
-  moved t e = ap (rest t) e
+  pub from-end : (t k : ℕ) → t < 2 → length (tableOf t) ≤ k → readFrom w z t k ≡ readFrom w z (suc t) 0
+  unfolding readFrom
+  from-end zero k ht h = first-none (tableOf 0) k (firstFit w z (tableOf 1) 0 Unknown) h
+  from-end (suc zero) k ht h = first-none (tableOf 1) k Unknown h
+  from-end (suc (suc t)) k ht h = refl
+
+  pub from-past : (t k : ℕ) → 2 ≤ t → readFrom w z t k ≡ Unknown
+  unfolding readFrom
+  from-past zero k h = absurd (omega arith)
+  from-past (suc zero) k h = absurd (omega arith)
+  from-past (suc (suc t)) k h = refl

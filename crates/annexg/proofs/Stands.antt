@@ -4,12 +4,13 @@ use mathlib.Core.Path.{_≡_, refl, sym, ap, subst, _∙_}
 use mathlib.Core.Bool.{Bool, true, false, cond, _&&_}
 use mathlib.Core.List.{List, [], _∷_}
 use mathlib.Core.Logic.{_⊎_, inl, inr}
-use Prim.Native.Nat.{ℕ, suc, _+_, _*_, _/_, _%_, _<_, suc-le-suc, zero-le}
+use Prim.Native.Nat.{ℕ, suc, _+_, _*_, _/_, _%_, _<_, _≤_, suc-le-suc, zero-le}
 use native.Mathlib.Omega.{arith}
 use lib.Dec.{T, eqb, eqb→eq, lit<}
 use lib.ListN.{length, getD}
 use Rattle.lists.proofs.Test.{and-left, and-right, truth, truth-of}
 use Rattle.annexg.specs.Read.{tableOf, entryOf, nextOf, bothZero, agrees, fitsOf, firstFit, readGiven, readWord, StandsFor}
+use Rattle.annexg.proofs.Search.{each-table, length-main, length-sub}
 use Rattle.annexg.proofs.Unique.{reads-back}
 use Rattle.annexg.specs.declared.Reading.{Reading}
 use Rattle.annexg.specs.declared.Reading.the-variants.{Byte, Unknown}
@@ -80,6 +81,13 @@ read-stands w f b e = main (found-in w (bothZero f) (tableOf 0) 0 (firstFit w (b
     main : Found w (bothZero f) (tableOf 0) 0 b ⊎ (firstFit w (bothZero f) (tableOf 1) 0 Unknown ≡ Byte b) → StandsFor w f b
     main (inl r) = found-stands w f 0 b (lit< tt) r
     main (inr r) = sub (found-in w (bothZero f) (tableOf 1) 0 Unknown b r)
+
+-- a word is read as no byte over 255
+pub byte-small : (w f b : ℕ) → readWord w f ≡ Byte b → b < 256
+byte-small w f b e =
+    let s = read-stands w f b e in
+    let long = each-table (λ (t : ℕ). length (tableOf t) ≤ 1024) (omega (arith, length-main)) (omega (arith, length-sub)) (s .table-no) (s .table-small) in
+    omega (arith, s .row-small, long)
 
 -- an unknown word stands for no byte
 pub unknown-none : (w f : ℕ) → readWord w f ≡ Unknown → (b : ℕ) → StandsFor w f b → ⊥

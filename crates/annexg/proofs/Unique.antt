@@ -1,20 +1,23 @@
 -- A word stands for one byte, and reading gives it. A search tree holds the byte of each word; one test over both tables shows that every entry
--- that fits has the byte of the tree, so two that fit have one byte. Nothing is claimed of the tree beyond that test.
+-- that fits has the byte of the tree, so two that fit have one byte. Nothing is claimed of the tree beyond that test. So a search may begin at any entry that
+-- fits, and for a word that fits nothing anywhere (fit-from-given, unknown-from).
 -- Assumes nothing.
 use mathlib.Core.Path.{_≡_, refl, sym, ap, subst, _∙_}
 use mathlib.Core.Bool.{Bool, true, false, cond, _&&_}
 use mathlib.Core.List.{List, [], _∷_}
-use Prim.Native.Nat.{ℕ, zero, suc, _+_, _*_, _/_, _%_, _<_, zero-le, suc-le-suc, compare, Ordering·lt, Ordering·eq, Ordering·gt}
+use mathlib.Core.Logic.{dite}
+use Prim.Native.Nat.{ℕ, zero, suc, _+_, _*_, _/_, _%_, _<_, _≤_, zero-le, suc-le-suc, compare, Ordering·lt, Ordering·eq, Ordering·gt}
 use native.Mathlib.Nat.{not-suc-le-zero, le-of-suc-le-suc, add-zero, zero-add}
+use native.Mathlib.Decide.{decLt}
 use native.Mathlib.Omega.{arith}
-use lib.Dec.{T, eqb, eqb→eq, lit<}
+use lib.Dec.{T, eqb, eqb→eq, lit<, lit≤}
 use lib.ListN.{length, getD}
 use borrow.Author.Tests.{eq-eqb}
 use Rattle.lists.specs.Test.{every}
 use Rattle.lists.proofs.Test.{and-left, and-right, truth-of, every-at, implied}
-use Rattle.annexg.specs.Read.{tableOf, entryOf, bothZero, agrees, fitsOf, firstFit, readGiven, readWord}
+use Rattle.annexg.specs.Read.{tableOf, entryOf, bothZero, agrees, fitsOf, firstFit, readGiven, readFrom, readWord}
 use Rattle.annexg.specs.Tables.{mainTable, subTable}
-use Rattle.annexg.proofs.Search.{each-table, in-table}
+use Rattle.annexg.proofs.Search.{each-table, in-table, from-unfit, from-fit, from-end, from-past}
 use Rattle.annexg.specs.declared.Reading.{Reading}
 use Rattle.annexg.specs.declared.Reading.the-variants.{Byte, Unknown}
 
@@ -136,6 +139,32 @@ module _ (w : ℕ) (q : Bool) where
   -- an entry that fits is read as its byte
   pub reads-fit : (t k : ℕ) → t < 2 → k < length (tableOf t) → fitsOf w q (getD (tableOf t) k 0) ≡ true → readGiven w q ≡ Byte (k / 4)
   reads-fit t k ht h e = found t k ht h e ∙ ap Byte (entry-owned t k ht h e)
+
+  -- from an entry that fits on, the search finds what it finds from the first
+  pub fit-from-given : (t k : ℕ) → t < 2 → k < length (tableOf t) → fitsOf w q (getD (tableOf t) k 0) ≡ true → readFrom w q t k ≡ readGiven w q
+  fit-from-given t k ht h e = from-fit w q t k ht h e ∙ sym (reads-fit t k ht h e)
+
+  -- what fits nothing is unknown from every entry on
+  module _ (unknown : readGiven w q ≡ Unknown) where
+    unfit : (t k : ℕ) → t < 2 → k < length (tableOf t) → fitsOf w q (getD (tableOf t) k 0) ≡ false
+    unfit t k ht h = case (fitsOf w q (getD (tableOf t) k 0)) refl
+      where
+        case : (b : Bool) → fitsOf w q (getD (tableOf t) k 0) ≡ b → b ≡ false
+        case true e = let r = reads-fit t k ht h e in let z : _≡_ {A = ℕ} 0 1 = cc in absurd (omega arith)
+        case false e = refl
+
+    -- n entries are left of table t, or fewer
+    left-out : (t n k : ℕ) → t < 2 → length (tableOf t) ≤ k + n → readFrom w q t k ≡ readFrom w q (suc t) 0
+    left-out t zero k ht h = from-end w q t k ht (omega arith)
+    left-out t (suc n) k ht h =
+        dite (decLt k (length (tableOf t))) (λ l. from-unfit w q t k ht l (unfit t k ht l) ∙ left-out t n (suc k) ht (omega arith))
+        (λ l. from-end w q t k ht (omega (arith, l)))
+
+    pub unknown-from : (t k : ℕ) → readFrom w q t k ≡ Unknown
+    unknown-from zero k =
+        left-out 0 (length (tableOf 0)) k (lit< tt) (omega arith) ∙ left-out 1 (length (tableOf 1)) 0 (lit< tt) (omega arith) ∙ from-past w q 2 0 (lit≤ tt)
+    unknown-from (suc zero) k = left-out 1 (length (tableOf 1)) k (lit< tt) (omega arith) ∙ from-past w q 2 0 (lit≤ tt)
+    unknown-from (suc (suc t)) k = from-past w q (suc (suc t)) k (omega arith)
 
 -- each entry's word, before bits that agree with its next State, is read as its byte
 pub reads-back : (t b s f : ℕ) → t < 2 → b * 4 < length (tableOf t) → s < 4 → agrees (entryOf t b s % 16) (bothZero f) ≡ true → readWord (entryOf t b s / 16) f ≡ Byte b

@@ -21,7 +21,8 @@ syncTable =
 abbrev pub syncEnd : ℕ
 syncEnd = 0x0011
 
--- the first half word of SYn in State s; a choice is false for Primary, true for Secondary
+-- the first half word of SYn in State s; a choice is false for Primary, true for Secondary. What is no State and no code counts on in the table as it is
+-- laid: State 0 is taken for State 1, SY8 to SY15 of States 1 and 2 are SY0 to SY7 of States 3 and 4, and past the table's end there is 0
 abbrev pub codeFor : ℕ → ℕ → Bool → ℕ
 codeFor s n c = getD syncTable ((s - 1) / 2 * 16 + n * 2 + bit c) 0
 

@@ -1,4 +1,5 @@
--- Annex G of ECMA-268: each entry is its Code Word in hexadecimal with its next State as a fifth digit, byte by byte, State 1 to 4 in a row.
+-- Annex G of ECMA-268: each entry is its Code Word in hexadecimal with its next State as a fifth digit, byte by byte, State 1 to 4 in a row. Made by data/make
+-- from data/tables.tsv.
 -- Assumes nothing.
 use Prim.Native.Nat.{ℕ}
 use mathlib.Core.List.{List, [], _∷_}

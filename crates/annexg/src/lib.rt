@@ -6,7 +6,7 @@ ghost use mathlib.Core.Path.{_≡_};
 ghost use Prim.Native.Nat.{_*_, _-_, _/_, _<_, _≤_};
 ghost use lib.ListN.{length};
 ghost use Rattle.lists.specs.Count.{bit};
-ghost use Rattle.annexg.specs.Read.{tableOf, entryOf, wordOf, nextOf, bothZero, agrees, fitsOf, readWord};
+ghost use Rattle.annexg.specs.Read.{tableOf, entryOf, wordOf, nextOf, bothZero, agrees, fitsOf, readWord, readFrom, readingNumber};
 ghost use Rattle.annexg.specs.Sync.{syncTable, codeFor};
 
 // What a Code Word is read as.
@@ -33,7 +33,8 @@ pub fn sync_table() -> [u16; 32]
     tables::SYNC
 }
 
-// The entry for byte b in the column of State s + 1: of the main table where t is 0, else of the substitution table; 0 past the table's end.
+// Entry b · 4 + s of a table as it is laid, of the main table where t is 0, else of the substitution table: where s is below 4, byte b's in the column of
+// State s + 1. A column over 3 counts on into the bytes after b, and past the table's end there is 0.
 pub fn entry(m: &[u32; 1024], u: &[u32; 352], t: usize, b: u8, s: u8) -> u32
     requires { ⌜ (now m ≡ tableOf 0) × (now u ≡ tableOf 1) ⌝ }
     ensures { λ r. ⌜ r ≡ entryOf t b s ⌝ }
@@ -62,7 +63,7 @@ pub fn next_at(m: &[u32; 1024], u: &[u32; 352], t: usize, b: u8, s: u8) -> u8
     (entry(m, u, t, b, s) % 16) as u8
 }
 
-// The class of SYNC Codes that a State selects: 0 for States 1 and 2, 1 for States 3 and 4.
+// The class of SYNC Codes that a State selects: 0 for States 1 and 2, 1 for States 3 and 4. State 0 is taken for State 1, and States over 4 count on.
 fn class_of(s: u8) -> usize
     ensures { λ r. ⌜ (r ≡ (s - 1) / 2) × (r ≤ 127) ⌝ }
 {
@@ -81,7 +82,8 @@ pub fn digit(c: bool) -> usize
     0
 }
 
-// The first half word of SYn in State s, Primary or, where c holds, Secondary; 0 past the table's end. Every second half word is 0x0011.
+// The first half word of SYn in State s, Primary or, where c holds, Secondary; every second half word is 0x0011. What is no State and no code counts on in the
+// table as it is laid: State 0 is taken for State 1, SY8 to SY15 of States 1 and 2 are SY0 to SY7 of States 3 and 4, and past the table's end there is 0.
 pub fn sync_code(y: &[u16; 32], s: u8, n: u8, c: bool) -> u16
     requires { ⌜ now y ≡ syncTable ⌝ }
     ensures { λ r. ⌜ r ≡ codeFor s n c ⌝ }
@@ -94,30 +96,21 @@ pub fn sync_code(y: &[u16; 32], s: u8, n: u8, c: bool) -> u16
 pub fn both_zero(f: u16) -> bool
     ensures { λ r. ⌜ r ≡ bothZero f ⌝ }
 {
-    f / 32768 % 2 + f / 8 % 2 == 0
+    (f / 32768 % 2 == 0) & (f / 8 % 2 == 0)
 }
 
-// Next State n agrees with what follows; z says whether bits 15 and 3 of that are both ZERO.
+// Next State n agrees with what follows; z says whether bits 15 and 3 of that are both ZERO. One State disagrees: 3 where they are, 2 where they are not.
 pub fn agrees_with(n: u32, z: bool) -> bool
     ensures { λ r. ⌜ r ≡ agrees n z ⌝ }
 {
-    if n == 2 {
-        return z;
-    }
-    if n == 3 {
-        return !z;
-    }
-    true
+    n != 2 + z as u32
 }
 
-// An entry has the word w, with a next State that agrees.
+// An entry has the word w, with a next State that agrees: two tests, and no branch between them.
 pub fn fits(w: u16, z: bool, e: u32) -> bool
     ensures { λ r. ⌜ r ≡ fitsOf w z e ⌝ }
 {
-    if e / 16 != w as u32 {
-        return false;
-    }
-    agrees_with(e % 16, z)
+    (e / 16 == w as u32) & agrees_with(e % 16, z)
 }
 
 // How many bytes a table has words for.
@@ -128,25 +121,43 @@ fn bytes_of(t: usize) -> usize
     if t == 0 { 256 } else { 88 }
 }
 
-// What the word w is read as where the half word f follows, by the tables that are lent. The search stops at the first entry that fits.
+// The search through the columns, from entry `at` of table `table` on: it stops at the first entry that fits, with its byte, or past the last one with 256.
+// The answer is a number because that stays in a register; the enum would go through memory, word by word.
+pub fn search_from(m: &[u32; 1024], u: &[u32; 352], w: u16, z: bool, table: usize, at: usize) -> u32
+    requires { ⌜ (now m ≡ tableOf 0) × (now u ≡ tableOf 1) ⌝ }
+    ensures { λ r. ⌜ r ≡ readingNumber (readFrom w z table at) ⌝ }
+{
+    let mut byte = at / 4;
+    let mut column = (at % 4) as u8;
+    'found: loop {
+        for t in table..2 {
+            let n = bytes_of(t);
+            for b in byte..n {
+                for s in column..4 {
+                    let e = entry(m, u, t, b as u8, s);
+                    if fits(w, z, e) {
+                        break 'found b as u32;
+                    }
+                }
+                column = 0;
+            }
+            byte = 0;
+            column = 0;
+        }
+        break 'found 256;
+    }
+}
+
+// What the word w is read as where the half word f follows, by the tables that are lent: the search from the first entry on.
 pub fn read_with(m: &[u32; 1024], u: &[u32; 352], w: u16, f: u16) -> Reading
     requires { ⌜ (now m ≡ tableOf 0) × (now u ≡ tableOf 1) ⌝ }
     ensures { λ r. ⌜ r ≡ readWord w f ⌝ }
 {
-    let z = both_zero(f);
-    'found: loop {
-        for t in 0..2 {
-            let n = bytes_of(t);
-            for b in 0..n {
-                for s in 0..4 {
-                    let e = entry(m, u, t, b as u8, s);
-                    if fits(w, z, e) {
-                        break 'found Reading::Byte(b as u8);
-                    }
-                }
-            }
-        }
-        break 'found Reading::Unknown;
+    let r = search_from(m, u, w, both_zero(f), 0, 0);
+    if r < 256 {
+        Reading::Byte(r as u8)
+    } else {
+        Reading::Unknown
     }
 }
 

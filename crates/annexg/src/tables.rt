@@ -1,4 +1,4 @@
-// The constants: annex G, one entry a cell, Code Word × 16 + next State, byte by byte, State 1 to 4 in a row; and table 4.
+// The constants: annex G, one entry a cell, Code Word × 16 + next State, byte by byte, State 1 to 4 in a row; and table 4. Made by data/make from data/tables.tsv.
 
 // The main table, 256 by 4.
 pub const MAIN: [u32; 1024] = [

@@ -1,4 +1,4 @@
--- A permitted stream of frames after any damage: each byte that is not touched is read as it was, and a row differs in at most its touched bytes.
+-- A permitted stream of frames after any damage: each byte that is not disturbed is read as it was. And two lists differ in at most the places that a test marks.
 -- Assumes nothing.
 use mathlib.Core.Path.{_≡_, refl, sym, ap, ap₂, subst, _∙_}
 use mathlib.Core.Bool.{Bool, true, false, not, _&&_}
@@ -80,7 +80,7 @@ count-step true x y a b f h = bound (eqb x y)
     bound false = omega arith
 count-step false x y a b f h = rw (eq-eqb x y (f refl)) (omega arith)
 
--- two lists distance in no more places than a test marks, where they are alike at each place that it leaves
+-- two lists differ in no more places than a test marks, where they are alike at each place that it leaves
 pub distance-count :
     (xs ys : List ℕ) (t : ℕ → Bool) (k : ℕ) → length xs ≡ length ys → ((i : ℕ) → i < length xs → t (k + i) ≡ false → getD xs i 0 ≡ getD ys i 0)
     → distance xs ys ≤ countFrom t k (length xs)

@@ -1,4 +1,4 @@
--- Every byte of a permitted stream is read back while its own half and bits 15 and 3 of the half after it stand.
+-- Every byte of a permitted stream after which an item stands is read back while its own half and bits 15 and 3 of the half after it stand.
 -- Assumes nothing.
 use mathlib.Core.Path.{_≡_, ap, _∙_}
 use mathlib.Core.Bool.{Bool}

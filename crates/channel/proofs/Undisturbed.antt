@@ -1,20 +1,20 @@
--- A permitted stream as it was laid: every Code Word is known, and every SYNC place holds a code of the number due there.
+-- A block's permitted stream as it was laid: every Code Word is known, every SYNC place of its 416 frames holds a code of the number due there, and it has 77,380
+-- bytes.
 -- Assumes nothing.
 use mathlib.Core.Path.{_≡_, refl, sym, ap, ap₂, _∙_}
-use mathlib.Core.Bool.{Bool, true, false}
+use mathlib.Core.Bool.{Bool}
 use mathlib.Core.List.{List, [], _∷_, _++_, map, append-assoc}
-use Prim.Native.Nat.{ℕ, zero, suc, _+_, _*_, _/_, _%_, _<_, _≤_}
+use Prim.Native.Nat.{ℕ, zero, suc, _+_, _*_, _/_, _%_, _<_}
 use native.Mathlib.Nat.{not-suc-le-zero, le-of-suc-le-suc}
 use native.Mathlib.Omega.{arith}
 use lib.Dec.{T}
 use lib.ListN.{length, getD, take, drop, length-append}
 use Rattle.lists.specs.Bytes.{Bytes}
 use Rattle.lists.proofs.Test.{and-left, and-right}
-use Rattle.annexg.specs.Read.{State, bothZero, readWord}
+use Rattle.annexg.specs.Read.{State, readWord}
 use Rattle.annexg.specs.Sync.{codeFor, syncEnd}
-use Rattle.annexg.specs.declared.Reading.{Reading}
-use Rattle.annexg.specs.declared.Reading.the-variants.{Byte, Unknown}
-use Rattle.channel.specs.Channel.{Item, sync, byte, halvesFor, nextFor, lastFor, allowed, permitted, stream, place, proper, allProper}
+use Rattle.annexg.specs.declared.Reading.the-variants.{Byte}
+use Rattle.channel.specs.Channel.{Item, sync, byte, nextFor, lastFor, allowed, permitted, stream, place, proper, allProper}
 use Rattle.channel.specs.Block.{codeOf, frames, blockItems, packed, closed, permittedChoices, permittedStream, halfOf, halfAt}
 use Rattle.channel.proofs.Places.{item-past, place-past, head-length, tail-length, frame-place, frame-item, frames-length, proper-append, frames-proper}
 use Rattle.channel.proofs.Reading.{next-state, reads}

@@ -7,6 +7,7 @@ use mathlib.Core.List.{List, [], _∷_}
 use Prim.Native.Nat.{ℕ, zero, suc, _+_, _*_, _-_, _<_, _≤_}
 use lib.Dec.{eqb}
 use lib.ListN.{length, getD, set, take, drop}
+use Rattle.lists.specs.Bytes.{Bytes}
 use Rattle.lists.specs.Count.{bit, countFrom}
 use Rattle.lists.specs.Fill.{tabulate}
 use Rattle.field.specs.Field.{add, mul, pow, inverse}
@@ -89,6 +90,13 @@ pub record Stored (m : List ℕ) (a : ℕ) (v m' : List ℕ) : Type 0 where
 unfoldable pub rootPlaces : List ℕ → ℕ → List ℕ
 rootPlaces c zero = []
 rootPlaces c (suc n) = cond (eqb (polyAt c (pow 2 n)) 0) (n ∷ rootPlaces c n) (rootPlaces c n)
+
+-- ks are the places below n of the roots of a locator for the syndromes S. With fewer than t errors there are several locators: any will do
+pub record Places (S : ℕ → ℕ) (t n : ℕ) (ks : List ℕ) : Type 0 where
+  pub locator : List ℕ
+  pub bytes : Bytes locator
+  pub locates : Locator S t locator
+  pub roots : ks ≡ rootPlaces locator n
 
 -- ---- the values
 

@@ -2,8 +2,9 @@
 -- Assumes nothing.
 use mathlib.Core.Bool.{Bool}
 use mathlib.Core.List.{List, [], _∷_}
-use Prim.Native.Nat.{ℕ, suc}
+use Prim.Native.Nat.{ℕ}
 use lib.Dec.{eqb}
+use lib.ListN.{length, getD}
 use Rattle.lists.specs.Test.{below}
 use Rattle.field.specs.Field.{add, mul, pow}
 
@@ -23,3 +24,7 @@ syndrome w i = valueAt w (pow 2 i)
 -- a code word with p roots α^0 .. α^(p-1): its first p syndromes are 0
 unfoldable pub isCode : ℕ → List ℕ → Bool
 isCode p w = below p (λ i. eqb (syndrome w i) 0)
+
+-- each entry of a list is 0. Of the p syndromes of a word this says that it is a code word (proofs/Decision, `allZero-isCode`)
+unfoldable pub allZero : List ℕ → Bool
+allZero s = below (length s) (λ i. eqb (getD s i 0) 0)

@@ -29,7 +29,7 @@ head-length info n =
     length-append (idOf info n) (iedOf (idOf info n) ++ cprMai)
     ∙ ap₂ (λ (x y : ℕ). x + y) (id-length info n) (length-append (iedOf (idOf info n)) cprMai ∙ ap (λ (x : ℕ). x + 6) (ied-length (idOf info n)))
 
-head-bytes : (info n : ℕ) → info < 256 → Bytes (headOf info n)
+pub head-bytes : (info n : ℕ) → info < 256 → Bytes (headOf info n)
 unfolding headOf idOf Bytes
 head-bytes info n h =
     append-bytes (idOf info n) (iedOf (idOf info n) ++ cprMai) (h, (omega arith, (omega arith, (omega arith, tt))))

@@ -1,4 +1,4 @@
 pub mod Framed
 pub mod Checked
 pub mod Laws
-pub mod Residue
+pub mod Polynomial

@@ -1,3 +1,4 @@
 pub mod Step
+pub mod Unpacked
 pub mod Division
 pub mod Words

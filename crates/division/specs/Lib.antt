@@ -1,1 +1,2 @@
+pub mod Unpacked
 pub mod Packed

@@ -3,11 +3,13 @@
 -- Assumes nothing.
 use mathlib.Core.List.{List}
 use mathlib.Core.Path.{_≡_}
-use Prim.Native.Nat.{ℕ, _+_, _*_, _-_, _<_}
+use Prim.Native.Nat.{ℕ, _+_, _*_, _-_, _/_, _%_}
 use lib.ListN.{length, getD, take, drop}
 use Rattle.lists.specs.Bytes.{Bytes}
+use Rattle.lists.specs.Fill.{tabulate}
 use Rattle.codes.specs.Parity.{addWords, parity}
-use Rattle.multiples.specs.Multiples.{high, low}
+use Rattle.multiples.specs.Multiples.{high, low, half}
+use Rattle.division.specs.Unpacked.{unpacked}
 
 -- h and l are a register x of p bytes
 pub record Packed (p : ℕ) (x : List ℕ) (h l : ℕ) : Type 0 where
@@ -16,10 +18,13 @@ pub record Packed (p : ℕ) (x : List ℕ) (h l : ℕ) : Type 0 where
   pub first : h ≡ high x
   pub second : l ≡ low x
 
--- n registers of p bytes side by side, register j at entries 2 j and 2 j + 1
-pub record Beside (p : ℕ) (R : ℕ → List ℕ) (n : ℕ) (regs : List ℕ) : Type 0 where
-  pub size : length regs ≡ 2 * n
-  pub each : (j : ℕ) → j < n → Packed p (R j) (getD regs (2 * j) 0) (getD regs (2 * j + 1) 0)
+-- n registers side by side, register j at entries 2 j and 2 j + 1
+unfoldable pub beside : (ℕ → List ℕ) → ℕ → List ℕ
+beside R n = tabulate (λ k. half (k % 2) (R (k / 2))) (2 * n)
+
+-- the sixteen bytes of register j, whatever stands there
+abbrev pub registerAt : List ℕ → ℕ → List ℕ
+registerAt regs j = unpacked (getD regs (2 * j) 0) (getD regs (2 * j + 1) 0)
 
 -- what is left of a received word when its last p bytes are taken from its parity
 unfoldable pub remainderOf : ℕ → List ℕ → List ℕ

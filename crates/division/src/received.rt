@@ -35,7 +35,7 @@ pub fn remainder_of(m: &[u64; 512], w: &[u8], p: usize) -> Remainder
     ensures { λ r. ⌜ (r .high ≡ high (remainderOf p (now (w .entry)))) × (r .low ≡ low (remainderOf p (now (w .entry)))) ⌝ }
 {
     let n = w.len() - p;
-    let x = crate::register::divide(m, &w[..n]);
+    let x = crate::register::divide(m, &w[..n], p);
     let q = &w[n..];
     Remainder {
         high: x.high ^ eight(q, 0),

@@ -1,13 +1,12 @@
 // Long division by the generators of the inner and the outer code (ECMA-268, clause 18), the register packed in two numbers: one byte of a word takes two
 // shifts and one pair of a lent table.
-ghost use mathlib.Core.List.{List};
 ghost use mathlib.Core.Path.{_≡_};
-ghost use Prim.Native.Nat.{ℕ, _+_, _*_, _/_, _%_, _≤_, _<_};
+ghost use Prim.Native.Nat.{_+_, _*_, _/_, _%_, _≤_, _<_};
 ghost use lib.ListN.{length, getD};
 ghost use Rattle.field.specs.Field.{add};
 ghost use Rattle.codes.specs.Parity.{shiftIn, generatorTail, parity};
 ghost use Rattle.multiples.specs.Multiples.{top, high, low, multiples};
-ghost use Rattle.division.specs.Packed.{Beside};
+ghost use Rattle.division.specs.Packed.{beside, registerAt};
 
 // The first eight places of a register, and the last eight.
 pub struct Remainder {
@@ -45,9 +44,10 @@ fn moved_low(low: u64, y: u64) -> u64
     ((low % TOP) * 256) ^ y
 }
 
-// The remainder of a word by the generator whose multiples are lent.
-pub fn divide(m: &[u64; 512], d: &[u8]) -> Remainder
-    ensures { λ r. ⌜ ((p : ℕ) → p ≤ 16 → now (m .entry) ≡ multiples p → (r .high ≡ high (parity p (now (d .entry)))) × (r .low ≡ low (parity p (now (d .entry))))) ⌝ }
+// The remainder of a word by the generator with p roots, whose multiples are lent. The table says all: p is there for the contract.
+pub fn divide(m: &[u64; 512], d: &[u8], p: usize) -> Remainder
+    requires { ⌜ (p ≤ 16) × (now m ≡ multiples p) ⌝ }
+    ensures { λ r. ⌜ (r .high ≡ high (parity p (now (d .entry)))) × (r .low ≡ low (parity p (now (d .entry)))) ⌝ }
 {
     let mut high: u64 = 0;
     let mut low: u64 = 0;
@@ -61,10 +61,10 @@ pub fn divide(m: &[u64; 512], d: &[u8]) -> Remainder
     Remainder { high, low }
 }
 
-// One byte more for each of the registers side by side: register j, at entries 2 j and 2 j + 1, takes byte j of the row.
+// One byte more for each of the registers of sixteen bytes side by side: register j, at entries 2 j and 2 j + 1, takes byte j of the row.
 pub fn shift_row(m: &[u64; 512], row: &[u8], regs: &mut [u64])
-    requires { ⌜ length (now regs) ≡ 2 * length (now row) ⌝ }
-    ensures { λ r. ⌜ ((p : ℕ) (R : ℕ → List ℕ) → p ≤ 16 → now (m .entry) ≡ multiples p → Beside p R (length (now (row .entry))) (now (regs .entry)) → Beside p (λ j. shiftIn (generatorTail p) (R j) (getD (now (row .entry)) j 0)) (length (now (row .entry))) (now (regs .exit))) ⌝ }
+    requires { ⌜ (now m ≡ multiples 16) × (length (now regs) ≡ 2 * length (now row)) ⌝ }
+    ensures { λ r. ⌜ now (regs .exit) ≡ beside (λ j. shiftIn (generatorTail 16) (registerAt (now (regs .entry)) j) (getD (now (row .entry)) j 0)) (length (now (row .entry))) ⌝ }
 {
     let mut j: usize = 0;
     while j < row.len() {

@@ -1,6 +1,6 @@
 -- The refusals of the block maker, case by case, and what an accepted block is.
 -- Assumes nothing.
-use mathlib.Core.Path.{_≡_, refl, sym, ap}
+use mathlib.Core.Path.{_≡_, refl, sym, ap, _∙_}
 use mathlib.Core.Bool.{Bool, true, false, _&&_, cond}
 use mathlib.Core.List.{List}
 use mathlib.Core.Logic.{_≢_}
@@ -35,26 +35,27 @@ module _ (n m first info : ℕ) where
         number-over h = rw (eq-eqb n 32768 e, eq-eqb m 37856 f, eq-eqb (first % 16) 0 g, lt-leb first 16777200 h)
 
         module _ (l : first ≤ 16777200) where
-          pub prohibited : bitAnd info 0xD2 ≢ 0 → 3 ≡ encodeRefusal n m first info
+          pub by-information : cond (isPermitted info) 0 3 ≡ encodeRefusal n m first info
           unfolding encodeRefusal
-          prohibited h =
-              rw (eq-eqb n 32768 e, eq-eqb m 37856 f, eq-eqb (first % 16) 0 g, le-leb first 16777200 l, ne-eqb (bitAnd info 0xD2) 0 h)
+          by-information = rw (eq-eqb n 32768 e, eq-eqb m 37856 f, eq-eqb (first % 16) 0 g, le-leb first 16777200 l)
 
-          pub none-applies : bitAnd info 0xD2 ≡ 0 → 0 ≡ encodeRefusal n m first info
-          unfolding encodeRefusal
-          none-applies h =
-              rw (eq-eqb n 32768 e, eq-eqb m 37856 f, eq-eqb (first % 16) 0 g, le-leb first 16777200 l, eq-eqb (bitAnd info 0xD2) 0 h)
+module _ (info : ℕ) where
+  pub prohibited : bitAnd info 0xD2 ≢ 0 → _≡_ {A = ℕ} 3 (cond (isPermitted info) 0 3)
+  prohibited h = rw (ne-eqb (bitAnd info 0xD2) 0 h)
+
+  pub permitted : bitAnd info 0xD2 ≡ 0 → _≡_ {A = ℕ} 0 (cond (isPermitted info) 0 3)
+  permitted h = rw (eq-eqb (bitAnd info 0xD2) 0 h)
 
 -- ---- the buffer
 
 module _ (main : List ℕ) (first info : ℕ) (old : List ℕ) where
-  pub buffer-left : (r : ℕ) → suc r ≡ encodeRefusal (length main) (length old) first info → old ≡ encodedBuffer main first info old
+  pub buffer-left : (r : ℕ) → r ≡ encodeRefusal (length main) (length old) first info → r ≢ 0 → old ≡ encodedBuffer main first info old
   unfolding encodedBuffer
-  buffer-left r e = rw (ne-eqb (encodeRefusal (length main) (length old) first info) 0 (λ z. omega (arith, e, z)))
+  buffer-left r e h = rw (ne-eqb (encodeRefusal (length main) (length old) first info) 0 (λ z. h (e ∙ z)))
 
-  pub buffer-made : 0 ≡ encodeRefusal (length main) (length old) first info → block main first info ≡ encodedBuffer main first info old
+  pub buffer-made : (r : ℕ) → r ≡ encodeRefusal (length main) (length old) first info → r ≡ 0 → block main first info ≡ encodedBuffer main first info old
   unfolding encodedBuffer
-  buffer-made e = rw (eq-eqb (encodeRefusal (length main) (length old) first info) 0 (sym e))
+  buffer-made r e h = rw (eq-eqb (encodeRefusal (length main) (length old) first info) 0 (sym e ∙ h))
 
 -- ---- an accepted block
 

@@ -1,12 +1,14 @@
 // The block maker (ECMA-268, clauses 16 to 19; document 01, 'The block'): 32,768 main data bytes to an ECC Block of 37,856 bytes in recording order. The tables are
 // made once a block and lent from there on.
+ghost use mathlib.Core.Bool.{cond};
 ghost use mathlib.Core.Path.{_≡_};
 ghost use mathlib.Core.List.{List};
 ghost use Prim.Native.Nat.{ℕ, _+_, _<_, _≤_};
 ghost use lib.ListN.{length};
 ghost use Rattle.field.specs.Tables.{LogTable};
 ghost use Rattle.multiples.specs.Multiples.{multiples};
-ghost use Rattle.division.specs.Packed.{Beside};
+ghost use Rattle.division.specs.Packed.{beside};
+ghost use Rattle.dataframe.specs.Frame.{isPermitted};
 ghost use Rattle.eccblock.specs.Block.{frame, block};
 ghost use Rattle.eccblock.specs.Parts.{frameOf};
 ghost use Rattle.eccblock.specs.Encode.{encodeRefusal, encodeNumber, encodedBuffer};
@@ -77,7 +79,7 @@ fn store_frames(t: &[u8; 768], main: &[u8], first: u32, info: u8, out: &mut [u8]
 // The registers of all columns, side by side, after the 192 rows in their order before they were moved.
 fn outer_registers(m: &[u64; 512], out: &[u8]) -> [u64; 344]
     requires { ⌜ (now m ≡ multiples 16) × (length (now out) ≡ 37856) ⌝ }
-    ensures { λ r. ⌜ Beside 16 (outerOf (now (out .entry))) 172 r ⌝ }
+    ensures { λ r. ⌜ r ≡ beside (outerOf (now (out .entry))) 172 ⌝ }
 {
     let mut regs = [0u64; 344];
     let mut i: usize = 0;
@@ -157,6 +159,16 @@ fn fill_block(main: &[u8], first: u32, info: u8, out: &mut [u8])
     add_inner(&inner, out);
 }
 
+// The answer by the Sector Information byte, where no lower number applies.
+fn judge_information(info: u8) -> Encoded
+    ensures { λ r. ⌜ encodeNumber r ≡ cond (isPermitted info) 0 3 ⌝ }
+{
+    if info & 0xD2 != 0 {
+        return Encoded::InformationRefused;
+    }
+    Encoded::Block
+}
+
 // The block maker. Where it refuses, the buffer is left as it was.
 pub fn encode_block(main: &[u8], first: u32, info: u8, out: &mut [u8]) -> Encoded
     ensures { λ r. ⌜ (encodeNumber r ≡ encodeRefusal (length (now (main .entry))) (length (now (out .entry))) first info) × (now (out .exit) ≡ encodedBuffer (now (main .entry)) first info (now (out .entry))) ⌝ }
@@ -173,11 +185,12 @@ pub fn encode_block(main: &[u8], first: u32, info: u8, out: &mut [u8]) -> Encode
     if 16777200 < first {
         return Encoded::NumberRefused;
     }
-    if info & 0xD2 != 0 {
-        return Encoded::InformationRefused;
+    let answer = judge_information(info);
+    if encode_number(answer) != 0 {
+        return answer;
     }
     fill_block(main, first, info, out);
-    Encoded::Block
+    answer
 }
 
 // Document 01's number of an answer, 0 where nothing is refused.

@@ -1,4 +1,5 @@
 pub mod Steps
-pub mod Residue
 pub mod Sums
+pub mod LongDivision
 pub mod Remainders
+pub mod Polynomial

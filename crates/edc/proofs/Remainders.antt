@@ -11,7 +11,7 @@ use Rattle.field.proofs.Field.{bit, add-assoc, zero-add, add-zero, add-swap, ad
 use Rattle.edc.specs.Edc.{edcBit, edcBits, edcFrom, fourBytes}
 use Rattle.edc.specs.Tables.{edcEntry, edcTable}
 use Rattle.edc.proofs.Sums.{add-mod, add-shift, digit-add, bit-times, sum-bit}
-use Rattle.edc.proofs.Residue.{absorb-four}
+use Rattle.edc.proofs.LongDivision.{absorb-four}
 
 -- ---- a sum of remainders and a sum of bits
 

@@ -24,10 +24,14 @@ add-shift k a b =
     sym (ℕ-add-zero (bitXor a b * 2 ^ k)) ∙ sym (xor-block k a b 0 0 (pow-pos k) (pow-pos k))
     ∙ ap₂ bitXor (ℕ-add-zero (a * 2 ^ k)) (ℕ-add-zero (b * 2 ^ k))
 
+-- digits in places of their own add without a carry
+pub add-apart : (k a b : ℕ) → b < 2 ^ k → add (a * 2 ^ k) b ≡ a * 2 ^ k + b
+unfolding add
+add-apart k a b h = xor-shifted a k b h
+
 -- a number is the sum of its k lowest digits and the rest
 pub add-parts : (k a : ℕ) → add (a / 2 ^ k * 2 ^ k) (a % 2 ^ k) ≡ a
-unfolding add
-add-parts k a = xor-shifted (a / 2 ^ k) k (a % 2 ^ k) (mod-lt a (pow-pos k)) ∙ split a k
+add-parts k a = add-apart k (a / 2 ^ k) (a % 2 ^ k) (mod-lt a (pow-pos k)) ∙ split a k
 
 -- digit k of a sum
 pub digit-add : (k a b : ℕ) → add a b / 2 ^ k % 2 ≡ add (a / 2 ^ k % 2) (b / 2 ^ k % 2)

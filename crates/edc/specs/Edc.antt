@@ -23,6 +23,6 @@ edcFrom r (x ∷ xs) = edcFrom (edcBits r x 8) xs
 unfoldable pub fourBytes : ℕ → List ℕ
 fourBytes r = r / 0x1000000 % 256 ∷ r / 0x10000 % 256 ∷ r / 0x100 % 256 ∷ r % 256 ∷ []
 
--- the four bytes of EDC
+-- the four bytes of EDC: these and no other four make the bytes with them a multiple of x^32 + x^31 + x^4 + 1 (`edc-multiple`, `edc-unique`)
 unfoldable pub edcOf : List ℕ → List ℕ
 edcOf xs = fourBytes (edcFrom 0 xs)

@@ -1,7 +1,7 @@
 -- The numbers that the functions of the C boundary answer with, and what a lent buffer holds afterwards.
 -- 0: done. 1 to 9: document 01's refusals. 16 and 17: what became of a word that was no code word; above every refusal, so that none is taken for another.
 -- Assumes nothing.
-use mathlib.Core.Bool.{Bool, true, false, _&&_, cond}
+use mathlib.Core.Bool.{Bool, cond}
 use mathlib.Core.List.{List}
 use Prim.Native.Nat.{ℕ}
 use lib.Dec.{eqb}
@@ -9,10 +9,6 @@ use lib.ListN.{length}
 use Rattle.codes.specs.declared.Outcome.{Outcome}
 use Rattle.codes.specs.declared.Outcome.the-variants.{Clean, Corrected, Uncorrectable}
 use Rattle.codes.specs.Nearest.{nearest, outcomeOf}
-use lib.IntN.{ℤ}
-use Rattle.annexg.specs.declared.Reading.{Reading}
-use Rattle.annexg.specs.declared.Reading.the-variants.{Byte, Unknown}
-use Rattle.writer.specs.declared.Record.{Record}
 
 -- a buffer has n bytes
 abbrev pub sized : ℕ → List ℕ → Bool
@@ -39,12 +35,3 @@ repairNumber n p t w = cond (sized n w) (outcomeNumber (outcomeOf p t w)) 1
 -- the bytes of the word after it
 abbrev pub repairBytes : ℕ → ℕ → ℕ → List ℕ → List ℕ
 repairBytes n p t w = heldAfter (sized n w) (nearest p t w) w
-
--- a word that was read: its byte, or 256 for an unknown one
-abbrev pub readingNumber : Reading → ℕ
-readingNumber (Byte b) = b
-readingNumber Unknown = 256
-
--- the writer's record from its five numbers, as they are lent
-abbrev pub recordOf : ℕ → ℕ → ℤ → ℕ → Bool → Record
-recordOf state level dsv sectors closed = record { state = state; level = level; dsv = dsv; sectors = sectors; closed = closed }

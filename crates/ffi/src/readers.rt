@@ -2,11 +2,11 @@
 ghost use mathlib.Core.Path.{_≡_};
 ghost use Prim.Native.Nat.{_≤_};
 ghost use lib.ListN.{length};
-ghost use Rattle.reader.specs.Sector.{sectorAnswer, sectorAfter};
-ghost use Rattle.repairer.specs.Answer.{repairAnswer, blockAfter, mainAfter};
-ghost use Rattle.roundtrip.specs.BlockReader.{blockReadAnswer, blockReadBlock, blockReadMain};
+ghost use Rattle.reader.specs.Sector.{sectorAnswer, sectorAfter, sectorReadRefusal};
+ghost use Rattle.repairer.specs.Answer.{repairAnswer, blockAfter, mainAfter, repairRefusal};
+ghost use Rattle.roundtrip.specs.BlockReader.{blockReadAnswer, blockReadBlock, blockReadMain, blockReadRefusal};
 ghost use Rattle.ffi.specs.Answers.{sized, heldAfter};
-ghost use Rattle.ffi.specs.Readers.{sectorReport, repairReport, blockReport, sectorReadNumber, blockRepairNumber, blockReadNumberOr1};
+ghost use Rattle.ffi.specs.Readers.{sectorReport, repairReport, blockReport, numberOr1};
 use reader::SectorRead;
 use repairer::Repaired;
 use roundtrip::BlockRead;
@@ -97,7 +97,7 @@ fn lay_block(r: BlockRead, report: &mut [u32])
 // 4,838 bytes of stream to 2,366; 0, or refusal 1. The report has the tallies: unknown words, SYNC places that hold no code due there.
 #[no_mangle]
 pub extern "C" fn chamanzil_read_sector(stream: &[u8], out: &mut [u8], report: &mut [u32]) -> u32
-    ensures { λ r. ⌜ r ≡ sectorReadNumber (sized 2 (now (report .entry))) (sectorAnswer (now (stream .entry)) (length (now (out .entry)))) ⌝ }
+    ensures { λ r. ⌜ r ≡ numberOr1 (sized 2 (now (report .entry))) (sectorReadRefusal (now (stream .entry)) (length (now (out .entry)))) ⌝ }
     ensures { λ r. ⌜ now (out .exit) ≡ heldAfter (sized 2 (now (report .entry))) (sectorAfter (now (stream .entry)) (now (out .entry))) (now (out .entry)) ⌝ }
     ensures { λ r. ⌜ now (report .exit) ≡ heldAfter (sized 2 (now (report .entry))) (sectorReport (sectorAnswer (now (stream .entry)) (length (now (out .entry)))) (now (report .entry))) (now (report .entry)) ⌝ }
 {
@@ -117,7 +117,7 @@ pub extern "C" fn chamanzil_repair_block(
     main: &mut [u8],
     report: &mut [u32],
 ) -> u32
-    ensures { λ r. ⌜ r ≡ blockRepairNumber (sized 6 (now (report .entry))) (repairAnswer (now (block .entry)) (length (now (main .entry)))) ⌝ }
+    ensures { λ r. ⌜ r ≡ numberOr1 (sized 6 (now (report .entry))) (repairRefusal (now (block .entry)) (length (now (main .entry)))) ⌝ }
     ensures { λ r. ⌜ now (block .exit) ≡ heldAfter (sized 6 (now (report .entry))) (blockAfter (now (block .entry)) (length (now (main .entry)))) (now (block .entry)) ⌝ }
     ensures { λ r. ⌜ now (main .exit) ≡ heldAfter (sized 6 (now (report .entry))) (mainAfter (now (block .entry)) (now (main .entry))) (now (main .entry)) ⌝ }
     ensures { λ r. ⌜ now (report .exit) ≡ heldAfter (sized 6 (now (report .entry))) (repairReport (repairAnswer (now (block .entry)) (length (now (main .entry)))) (now (report .entry))) (now (report .entry)) ⌝ }
@@ -139,7 +139,7 @@ pub extern "C" fn chamanzil_read_block(
     main: &mut [u8],
     report: &mut [u32],
 ) -> u32
-    ensures { λ r. ⌜ r ≡ blockReadNumberOr1 (sized 8 (now (report .entry))) (blockReadAnswer (now (stream .entry)) (length (now (block .entry))) (length (now (main .entry)))) ⌝ }
+    ensures { λ r. ⌜ r ≡ numberOr1 (sized 8 (now (report .entry))) (blockReadRefusal (now (stream .entry)) (length (now (block .entry))) (length (now (main .entry)))) ⌝ }
     ensures { λ r. ⌜ now (block .exit) ≡ heldAfter (sized 8 (now (report .entry))) (blockReadBlock (now (stream .entry)) (now (block .entry)) (length (now (main .entry)))) (now (block .entry)) ⌝ }
     ensures { λ r. ⌜ now (main .exit) ≡ heldAfter (sized 8 (now (report .entry))) (blockReadMain (now (stream .entry)) (length (now (block .entry))) (now (main .entry))) (now (main .entry)) ⌝ }
     ensures { λ r. ⌜ now (report .exit) ≡ heldAfter (sized 8 (now (report .entry))) (blockReport (blockReadAnswer (now (stream .entry)) (length (now (block .entry))) (length (now (main .entry)))) (now (report .entry))) (now (report .entry)) ⌝ }

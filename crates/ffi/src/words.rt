@@ -4,9 +4,8 @@ ghost use mathlib.Core.Bool.{_&&_};
 ghost use lib.Dec.{leb};
 ghost use lib.ListN.{length};
 ghost use Rattle.lists.specs.Count.{bit};
-ghost use Rattle.annexg.specs.Read.{readWord};
+ghost use Rattle.annexg.specs.Read.{readWord, readingNumber};
 ghost use Rattle.channel.specs.Bits.{runsHold};
-ghost use Rattle.ffi.specs.Answers.{readingNumber};
 use annexg::Reading;
 
 fn reading_number(r: Reading) -> u32

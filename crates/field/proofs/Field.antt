@@ -1,17 +1,17 @@
 -- The laws of the field: sums, the product's two linearities, and from these and computed tests on powers of x the product's laws.
 -- Assumes nothing.
 use mathlib.Core.Path.{_≡_, refl, sym, ap, ap₂, _∙_, subst}
-use mathlib.Core.Bool.{Bool, true, false}
-use mathlib.Core.Logic.{_⊎_, inl, inr, _≢_}
+use mathlib.Core.Bool.{Bool}
+use mathlib.Core.Logic.{_≢_}
 use Prim.Native.Nat.{ℕ, zero, suc, _+_, _-_, _*_, _/_, _%_, _^_, _<_, _≤_}
-use native.Mathlib.Nat.{mod-lt, div-lt-iff-lt-mul, mod-eq-of-lt, zero-lt-suc, not-suc-le-zero, le-of-suc-le-suc, pow-suc, lt-suc-self, lt-of-le-of-lt}
+use native.Mathlib.Nat.{mod-lt, div-lt-iff-lt-mul, zero-lt-suc, not-suc-le-zero, le-of-suc-le-suc, pow-suc, lt-suc-self, lt-of-le-of-lt}
 use native.Mathlib.Nat.{zero-mul as ℕ-zero-mul, one-mul as ℕ-one-mul, add-zero as ℕ-add-zero, mul-comm as ℕ-mul-comm}
 use native.Mathlib.Omega.{arith}
-use lib.Dec.{T, eqb, eqb→eq, lit<}
+use lib.Dec.{T, eqb, eqb→eq}
 use lib.Arith.{bin-ind, lt-one}
 use lib.Pow.{pow-pos, split, mod-mod-pow}
-use lib.Bits.{bitXor, differ, xor-step, xor-shr, xor-mod, xor-block, xor-shifted, xor-comm, xor-self, xor-zero-r, xor-lt}
-use Rattle.field.specs.Field.{add, double, mulBits, mul, square, powHalves, pow}
+use lib.Bits.{bitXor, differ, xor-step, xor-shr, xor-mod, xor-block, xor-shifted, xor-comm, xor-self, xor-lt}
+use Rattle.field.specs.Field.{add, eighthPower, double, mulBits, mul, square, powHalves, pow}
 use Rattle.lists.specs.Test.{below}
 use Rattle.lists.proofs.Test.{below-at}
 
@@ -110,9 +110,9 @@ double-add : (a b : ℕ) → double (add a b) ≡ add (double a) (double b)
 unfolding double
 double-add a b =
     ap₂ add (ap (λ (x : ℕ). x % 256) (add-shift a b) ∙ add-mod (a * 2) (b * 2) 8)
-    (ap (λ (x : ℕ). x * 29) (ap (λ (x : ℕ). x % 2) (add-div a b 7) ∙ add-mod (a / 128) (b / 128) 1)
-    ∙ bit-left (a / 128 % 2) (b / 128 % 2) 29 (bit (a / 128)) (bit (b / 128)))
-    ∙ add-swap (a * 2 % 256) (b * 2 % 256) (a / 128 % 2 * 29) (b / 128 % 2 * 29)
+    (ap (λ (x : ℕ). x * eighthPower) (ap (λ (x : ℕ). x % 2) (add-div a b 7) ∙ add-mod (a / 128) (b / 128) 1)
+    ∙ bit-left (a / 128 % 2) (b / 128 % 2) eighthPower (bit (a / 128)) (bit (b / 128)))
+    ∙ add-swap (a * 2 % 256) (b * 2 % 256) (a / 128 % 2 * eighthPower) (b / 128 % 2 * eighthPower)
 
 mulBits-left : (n a b c : ℕ) → mulBits n (add a b) c ≡ add (mulBits n a c) (mulBits n b c)
 unfolding mulBits

@@ -1,17 +1,20 @@
 -- Products and inverses by logarithms.
 -- Assumes nothing.
-use mathlib.Core.Path.{_≡_, refl, sym, ap, ap₂, _∙_}
+use mathlib.Core.Path.{_≡_, sym, ap, ap₂, _∙_}
 use mathlib.Core.Bool.{Bool, _&&_}
 use mathlib.Core.List.{List}
-use Prim.Native.Nat.{ℕ, zero, suc, _+_, _-_, _<_, _≤_}
+use mathlib.Core.Logic.{dite}
+use Prim.Native.Nat.{ℕ, zero, suc, _+_, _-_, _<_}
+use native.Mathlib.Decide.{decLt}
 use native.Mathlib.Omega.{arith}
 use lib.Dec.{T, eqb, ltb, eqb→eq, ltb→lt}
-use lib.ListN.{getD}
+use lib.ListN.{length, getD}
+use lib.Seq.{ext-getD}
 use Rattle.lists.specs.Test.{below}
 use Rattle.lists.proofs.Test.{and-left, and-right, below-at}
 use Rattle.field.specs.Field.{add, double, mulBits, mul, pow, inverse}
 use Rattle.field.specs.Tables.{LogTable}
-use Rattle.field.proofs.Powers.{pow-zero, pow-suc, pow-add, alpha, alpha-lt, alpha-order}
+use Rattle.field.proofs.Powers.{pow-zero, pow-suc, pow-add, alpha, alpha-lt, alpha-order, powers-differ}
 use Rattle.field.proofs.Inverse.{inverse-is}
 
 module _ (t : List ℕ) (h : LogTable t) where
@@ -33,6 +36,33 @@ module _ (t : List ℕ) (h : LogTable t) where
       (ap (λ (x : ℕ). mul x (pow 2 (255 - i))) (sym (ap (pow 2) e ∙ h .log a (omega (arith, na)) ha)) ∙ sym (pow-add 2 alpha i (255 - i))
       ∙ ap (pow 2) (omega arith) ∙ alpha-order))
 
+-- ---- the rule fixes each of the 768 entries
+
+same-logarithm : (i j : ℕ) → i < 255 → j < 255 → pow 2 i ≡ pow 2 j → i ≡ j
+same-logarithm i j hi hj e =
+    dite (decLt i j) (λ l. absurd (powers-differ i j l hj e))
+    (λ m. dite (decLt j i) (λ l. absurd (powers-differ j i l hi (sym e))) (λ n. omega (arith, m, n)))
+
+module _ (t u : List ℕ) (h : LogTable t) (k : LogTable u) where
+  same-entry : (i : ℕ) → i < 768 → getD t i 0 ≡ getD u i 0
+  same-entry zero l = h .log-zero ∙ sym (k .log-zero)
+  same-entry (suc a) l = dite (decLt (suc a) 256) same-log same-exp
+    where
+      same-log : suc a < 256 → getD t (suc a) 0 ≡ getD u (suc a) 0
+      same-log b =
+          same-logarithm (getD t (suc a) 0) (getD u (suc a) 0) (h .log-small (suc a) (omega arith) b) (k .log-small (suc a) (omega arith) b)
+          (h .log (suc a) (omega arith) b ∙ sym (k .log (suc a) (omega arith) b))
+
+      same-exp : (suc a < 256 → ⊥) → getD t (suc a) 0 ≡ getD u (suc a) 0
+      same-exp b =
+          let i : ℕ = suc a - 256 in
+          let e : suc a ≡ 256 + i = omega (arith, b) in
+          let m : i < 512 = omega arith in
+          rw e (h .exp i m ∙ sym (k .exp i m))
+
+  pub log-table-unique : length t ≡ 768 → length u ≡ 768 → t ≡ u
+  log-table-unique e f = ext-getD 0 t u (e ∙ sym f) (λ i l. same-entry i (omega arith))
+
 -- ---- the table's rule, from two tests over its entries
 
 -- entry a + 1 is the index, from entry 256 on, of the element a + 1
@@ -44,6 +74,7 @@ unfoldable pub expRight : List ℕ → ℕ → Bool
 expRight t i = eqb (getD t (256 + suc i) 0) (double (getD t (256 + i) 0))
 
 pub record Right (t : List ℕ) : Type 0 where
+  pub none : getD t 0 0 ≡ 0
   pub first : getD t 256 0 ≡ 1
   pub logs : T (below 255 (logRight t))
   pub exps : T (below 511 (expRight t))
@@ -73,4 +104,4 @@ module _ (t : List ℕ) (r : Right t) where
       (l, sym (exps-at x (omega arith)) ∙ eqb→eq (getD t (256 + x) 0) (suc a) (and-right (ltb x 255) (eqb (getD t (256 + x) 0) (suc a)) q))
 
   pub right-table : LogTable t
-  right-table = record { log-small = λ a p h. logs-at a p h .0; log = λ a p h. logs-at a p h .1; exp = exps-at }
+  right-table = record { log-zero = r .none; log-small = λ a p h. logs-at a p h .0; log = λ a p h. logs-at a p h .1; exp = exps-at }

@@ -2,7 +2,7 @@
 -- x^i, and α is the element x, the byte 2.
 -- Assumes nothing.
 use mathlib.Core.Bool.{Bool, true, false}
-use Prim.Native.Nat.{ℕ, zero, suc, _+_, _*_, _/_, _%_}
+use Prim.Native.Nat.{ℕ, zero, suc, _*_, _/_, _%_}
 use lib.Bits.{bitXor}
 use lib.Dec.{eqb}
 
@@ -10,9 +10,13 @@ use lib.Dec.{eqb}
 unfoldable pub add : ℕ → ℕ → ℕ
 add a b = bitXor a b
 
--- x times an element: shifted up by one, and where x^8 comes up, x^4 + x^3 + x^2 + 1 stands in its place
+-- x^8: x^4 + x^3 + x^2 + 1
+abbrev pub eighthPower : ℕ
+eighthPower = 0x1D
+
+-- x times an element: shifted up by one, and where x^8 comes up, what it is stands in its place
 unfoldable pub double : ℕ → ℕ
-double a = add (a * 2 % 256) (a / 128 % 2 * 0x1D)
+double a = add (a * 2 % 256) (a / 128 % 2 * eighthPower)
 
 -- the sum of x^i times a over the n lowest bits i of b that are ONE
 unfoldable pub mulBits : ℕ → ℕ → ℕ → ℕ

@@ -68,9 +68,9 @@ pub fn power(t: &[u8; 768], a: u8, n: u64) -> u8
     }
 }
 
-// Entry a is the logarithm of a to the base α (entry 0 is unused); entry 256 + i is α^i, i up to 511. The one entry in hexadecimal is α^8.
+// Entry a is the logarithm of a to the base α (0 has none: entry 0 is 0); entry 256 + i is α^i, i up to 511. In hexadecimal: entry 0, and α^8.
 const TABLE: [u8; 768] = [
-    0,
+    0x00,
     0,
     1,
     25,

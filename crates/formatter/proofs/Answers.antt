@@ -1,19 +1,16 @@
 -- What specs/Formatter says in each case, and the stream of a block by the writer's calls.
 -- Assumes nothing.
-use mathlib.Core.Bool.{Bool, true, false, cond}
 use mathlib.Core.List.{List}
-use mathlib.Core.Path.{_≡_, refl, sym, ap, ap₂, _∙_}
-use Prim.Native.Nat.{ℕ, zero, suc, _*_, _<_, _≤_}
+use mathlib.Core.Path.{_≡_, refl, sym, ap, _∙_}
+use Prim.Native.Nat.{ℕ, _*_, _<_}
 use native.Mathlib.Omega.{arith}
 use borrow.Author.Tests.{eq-eqb, ne-eqb}
 use lib.Dec.{eqb}
-use lib.ListN.{length, getD, take, drop, length-drop}
+use lib.ListN.{length, take, drop, length-drop}
 use lib.Seq.{length-take-le}
 use Rattle.lists.specs.Bytes.{Bytes}
 use Rattle.eccblock.specs.Block.{block}
-use Rattle.eccblock.specs.Encode.{encodeRefusal, encodeNumber, encodedBuffer, Accepted}
-use Rattle.eccblock.proofs.Laws.{block-length, block-bytes}
-use Rattle.streams.specs.Frames.{choicesOf}
+use Rattle.eccblock.specs.Encode.{encodeRefusal, encodedBuffer}
 use Rattle.streams.proofs.Frames.{block-stream}
 use Rattle.writer.specs.Records.{start, runOf}
 use Rattle.writer.specs.Session.{blockCalls}
@@ -61,4 +58,4 @@ closing-room old l = length-drop 77376 old ∙ omega (arith, l)
 pub calls-stream : (bs old : List ℕ) → length bs ≡ 37856 → Bytes bs → length old ≡ 77380 → blockCalls bs (sectorRoom old) (closingRoom old) .bytes ≡ blockStream bs
 unfolding blockStream
 calls-stream bs old l b h =
-    block-written bs (sectorRoom old) l b (sector-room old h) (closingRoom old) (closing-room old h) .1 ∙ sym (block-stream (runOf start) bs refl)
+    block-written bs (sectorRoom old) l b (sector-room old h) (closingRoom old) (closing-room old h) .stream ∙ sym (block-stream (runOf start) bs refl)

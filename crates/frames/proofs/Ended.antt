@@ -2,7 +2,7 @@
 -- Assumes nothing.
 use mathlib.Core.Path.{_≡_, refl, sym, ap, ap₂, subst, _∙_}
 use mathlib.Core.Bool.{Bool, true, false, not, cond, _&&_}
-use mathlib.Core.List.{List, [], _∷_, _++_, map, append-assoc, append-nil}
+use mathlib.Core.List.{List, [], _∷_, _++_, map}
 use Prim.Native.Nat.{ℕ, _+_, _<_, _≤_}
 use native.Mathlib.Numerals.{add-one}
 use native.Mathlib.Omega.{arith}
@@ -10,20 +10,19 @@ use borrow.Author.Tests.{ltb-true, ltb-false, lt-ltb, le-ltb, eq-eqb, ne-eqb}
 use lib.Dec.{T, eqb, ltb}
 use lib.ListN.{length, getD, take, drop, length-drop}
 use lib.Seq.{take-suc, take-all, getD-drop}
-use Rattle.lists.proofs.Test.{and-right}
 use Rattle.annexg.specs.Read.{State}
-use Rattle.annexg.specs.Sync.{syncEnd, codeFor}
+use Rattle.annexg.specs.Sync.{codeFor}
 use Rattle.annexg.proofs.Sync.{codes-differ}
 use Rattle.channel.specs.Bits.{bitsAll}
 use Rattle.channel.specs.Block.{packed, halfAt}
-use Rattle.channel.specs.Channel.{Item, byte, nextFor, lastFor, allowed, permitted, stream, stateAfter}
+use Rattle.channel.specs.Channel.{byte, permitted, stateAfter}
 use Rattle.levels.specs.Level.{magnitude, levelAfter, dsvAfter, runAfter, Room}
 use Rattle.levels.specs.declared.Run.{Run}
 use Rattle.channel.proofs.Damage.{half-packed}
 use Rattle.channel.proofs.Joined.{packed-length}
 use Rattle.levels.proofs.Steps.{same-run, run-append, room-after}
-use Rattle.streams.specs.Streams.{Stream, fresh, lay, layAll, frameItems, otherFirst, otherCode, beyond, changes, ended}
-use Rattle.streams.proofs.Laid.{Laid, laidBy, extended, all-laid, laid-fresh, other-permitted}
+use Rattle.streams.specs.Streams.{Stream, fresh, layAll, frameItems, otherFirst, otherCode, beyond, changes, ended}
+use Rattle.streams.proofs.Laid.{Laid, laidBy, all-by, rest, laid-halves, laid-run, other-permitted}
 use Rattle.laying.specs.Sides.{putAt}
 use Rattle.frames.specs.Inner.{Whole, Closes}
 
@@ -90,33 +89,6 @@ pub room-next : (run r : Run) (w k n : ℕ) → k ≡ 16 + n → Room run k → 
 room-next run r w k n h g e = subst (λ (z : Run). Room z n) (sym e) (room-after run (run .state) n (w ∷ []) (subst (Room run) h g))
 
 -- ---- a frame's stream, and the same with the other code
-
--- items laid one by one are laid at once
-all-choices : (m : Stream) (s l : ℕ) (is : List Item) (cs : List Bool) → T (permitted s l is cs) → layAll m is cs .choices ≡ m .choices ++ cs
-unfolding layAll permitted
-all-choices m s l [] [] p = sym (append-nil (m .choices))
-all-choices m s l [] (c ∷ cs) p = absurd p
-all-choices m s l (i ∷ is) [] p = absurd p
-all-choices m s l (i ∷ is) (c ∷ cs) p =
-    all-choices (lay m i c) (nextFor s i c) (lastFor s i c) is cs (and-right (allowed s l i c) (permitted (nextFor s i c) (lastFor s i c) is cs) p)
-    ∙ unfold lay in append-assoc (m .choices) (c ∷ []) cs
-
-all-by : (r : Run) (is : List Item) (cs : List Bool) → T (permitted (r .state) 0 is cs) → layAll (fresh r) is cs ≡ laidBy r is cs
-all-by r is cs p = all-laid r [] (fresh r) is cs (laid-fresh r) p .same ∙ ap (laidBy r is) (all-choices (fresh r) (r .state) 0 is cs p)
-
--- the half words after the first
-rest : List ℕ → List Bool → List ℕ
-rest bs ds = syncEnd ∷ stream 1 (map byte bs) ds
-
-laid-halves : (r : Run) (n : ℕ) (bs : List ℕ) (c : Bool) (ds : List Bool) → laidBy r (frameItems n bs) (c ∷ ds) .halves ≡ codeFor (r .state) n c ∷ rest bs ds
-unfolding laidBy extended stream rest
-laid-halves r n bs c ds = refl
-
-laid-run :
-    (r : Run) (n : ℕ) (bs : List ℕ) (c : Bool) (ds : List Bool)
-    → laidBy r (frameItems n bs) (c ∷ ds) .run ≡ runAfter r (stateAfter 1 (map byte bs) ds) (codeFor (r .state) n c ∷ rest bs ds)
-unfolding laidBy extended stream stateAfter rest
-laid-run r n bs c ds = refl
 
 ended-is : (r : Run) (n : ℕ) (bs : List ℕ) (m : Stream) (x : Bool) → changes r n bs m ≡ x → cond x (otherCode r n bs m) m ≡ ended r n bs m
 unfolding ended

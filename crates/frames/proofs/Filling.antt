@@ -1,7 +1,7 @@
 -- Both streams over the bytes of a frame, one after the other, and the frame.
 -- Assumes nothing.
 use mathlib.Core.Path.{_≡_, refl, sym, ap, ap₂, subst, _∙_}
-use mathlib.Core.Bool.{Bool, true, false, cond}
+use mathlib.Core.Bool.{Bool, true, false}
 use mathlib.Core.List.{List, [], _∷_, _++_, map}
 use Prim.Native.Nat.{ℕ, suc, _+_, _*_, _<_, _≤_}
 use native.Mathlib.Numerals.{add-one}
@@ -13,18 +13,18 @@ use Rattle.lists.specs.Bytes.{Bytes}
 use Rattle.lists.proofs.Bytes.{take-bytes}
 use Rattle.lists.proofs.Test.{and-both}
 use Rattle.annexg.specs.Read.{State}
-use Rattle.channel.specs.Block.{packed}
 use Rattle.channel.specs.Channel.{sync, byte, proper, allProper}
 use Rattle.levels.specs.Level.{magnitude, Room}
 use Rattle.levels.specs.declared.Run.{Run}
 use Rattle.channel.proofs.Places.{proper-bytes}
-use Rattle.streams.specs.Streams.{Stream, fresh, lay, Two, oneLower, lower, step, steps, opened, frameItems, ended, frameOf}
-use Rattle.streams.proofs.Laid.{Laid, Both, steps-laid, opened-laid}
+use Rattle.streams.specs.Streams.{Stream, fresh, lay, Two, oneLower, step, steps, opened, filled, frameItems, ended, frameOf, streamOf, isShown, bufferAfter}
+use Rattle.streams.proofs.Laid.{Laid, steps-laid, opened-laid}
+use Rattle.streams.proofs.Shown.{shown-lower, stream-laid, shown-holds, other-keeps}
 use Rattle.streams.proofs.Range.{width, laid-room, laid-state}
 use Rattle.laying.specs.Sides.{Next}
-use Rattle.frames.specs.Inner.{Part, Shows, Ready, Begins, Whole, Closes, Framed}
+use Rattle.frames.specs.Frame.{Begins}
+use Rattle.frames.specs.Inner.{Part, Shows, Ready, Whole, Closes}
 use Rattle.frames.specs.declared.Pair.{Pair}
-use Rattle.frames.specs.declared.Shown.{Shown}
 use Rattle.laying.specs.declared.Side.{Side}
 use Rattle.frames.proofs.Ended.{room-le}
 
@@ -66,13 +66,17 @@ filled-more p₀ p q x₀ y₀ x y x₁ y₁ bs i h f g t s =
     subst (λ (n : ℕ). Shows q x₁ y₁ n (steps t (take (i + 1) bs))) e
     (subst (λ (z : Two). Shows q x₁ y₁ (4 + 2 * i + 2) z) (sym (steps-more t bs i h)) (g (steps t (take i bs)) (f t s)))
 
+-- all 91 bytes are laid: each buffer is the whole of its stream
 pub filled-all :
-    (p₀ p : Pair) (x₀ y₀ x y bs : List ℕ) (i : ℕ) (t : Two) → i ≡ 91 → length bs ≡ 91 → Shows p₀ x₀ y₀ 4 t → Filled p₀ x₀ y₀ bs i p x y → Shows p x y 186 (steps t bs)
+    (p₀ p : Pair) (x₀ y₀ x y bs : List ℕ) (i : ℕ) (t : Two) → i ≡ 91 → length bs ≡ 91 → length x ≡ 186 → length y ≡ 186 → Shows p₀ x₀ y₀ 4 t → Filled p₀ x₀ y₀ bs i p x y
+    → Whole (p .one .run) x (steps t bs .one) × Whole (p .two .run) y (steps t bs .two)
 unfolding Filled
-filled-all p₀ p x₀ y₀ x y bs i t e l s f =
+filled-all p₀ p x₀ y₀ x y bs i t e l lx ly s f =
     let k : take i bs ≡ bs = take-all i bs (omega arith) in
-    let n : 4 + 2 * i ≡ 186 = omega arith in
-    subst (λ (z : ℕ). Shows p x y z (steps t bs)) n (subst (λ (z : List ℕ). Shows p x y (4 + 2 * i) (steps t z)) k (f t s))
+    let w : Shows p x y (4 + 2 * i) (steps t bs) = subst (λ (z : List ℕ). Shows p x y (4 + 2 * i) (steps t z)) k (f t s) in
+    let a : take (4 + 2 * i) x ≡ x = take-all (4 + 2 * i) x (omega arith) in
+    let b : take (4 + 2 * i) y ≡ y = take-all (4 + 2 * i) y (omega arith) in
+    (record { run = w .one .run; bytes = sym a ∙ w .one .bytes }, record { run = w .two .run; bytes = sym b ∙ w .two .bytes })
 
 -- ---- a step may be made before each of the 91 bytes
 
@@ -112,46 +116,28 @@ module _ (r : Run) (n : ℕ) (bs x₀ y₀ : List ℕ) (g : Begins r n bs x₀ y
         agree = s .agree;
       }
 
--- ---- the frame
+-- ---- the frame's end
 
-module _ (r : Run) (n : ℕ) (bs x y : List ℕ) (p : Pair) (s : Shows p x y 186 (steps (opened r n) bs)) (lx : length x ≡ 186) (ly : length y ≡ 186) where
-  laid-both : Both r (frameItems n bs) (steps (opened r n) bs)
-  laid-both = steps-laid r (sync n ∷ []) (opened r n) bs (opened-laid r n)
+-- which stream is lower, by the running records of both
+pub lower-is :
+    (r : Run) (n : ℕ) (bs : List ℕ) (one two : Run) → one ≡ filled r n bs .one .run → two ≡ filled r n bs .two .run → (f : Bool) → f ≡ leb (magnitude (one .dsv)) (magnitude (two .dsv))
+    → (l : Bool) → f ≡ l → oneLower (filled r n bs) ≡ l
+lower-is r n bs one two p q f e l h = sym (ap₂ (λ (u v : Run). leb (magnitude (u .dsv)) (magnitude (v .dsv))) p q) ∙ sym e ∙ h
 
-  one-whole : Whole (p .one .run) x (steps (opened r n) bs .one)
-  one-whole = record { run = s .one .run; bytes = sym (take-all 186 x (omega arith)) ∙ s .one .bytes }
+-- x is the buffer of Stream 1 (`true`) or of Stream 2 (`false`), run its running record
+module _ (r : Run) (n : ℕ) (bs : List ℕ) (first : Bool) (run : Run) (x : List ℕ) (w : Whole run x (streamOf first (filled r n bs))) where
+  -- it is not shown
+  pub buffer-keeps : isShown first (filled r n bs) ≡ false → x ≡ bufferAfter first r n bs
+  buffer-keeps e = w .bytes ∙ sym (other-keeps r n bs first e)
 
-  two-whole : Whole (p .two .run) y (steps (opened r n) bs .two)
-  two-whole = record { run = s .two .run; bytes = sym (take-all 186 y (omega arith)) ∙ s .two .bytes }
+  -- it is shown, and became y at the frame's end
+  module _ (e : isShown first (filled r n bs) ≡ true) (y : List ℕ) (q : Run) (k : Closes r n run x y q) where
+    is-shown : Whole q y (frameOf r n bs)
+    unfolding frameOf
+    is-shown = subst (λ (m : Stream). Whole q y (ended r n bs m)) (shown-lower first (filled r n bs) e) (k .so bs (streamOf first (filled r n bs)) (stream-laid r n bs first) w)
 
-  lower-is : (f : Bool) → f ≡ leb (magnitude (p .one .run .dsv)) (magnitude (p .two .run .dsv)) → (b : Bool) → f ≡ b → oneLower (steps (opened r n) bs) ≡ b
-  lower-is f e b t = sym (ap₂ (λ (u v : Run). leb (magnitude (u .dsv)) (magnitude (v .dsv))) (s .one .run) (s .two .run)) ∙ sym e ∙ t
+    pub buffer-shows : y ≡ bufferAfter first r n bs
+    buffer-shows = is-shown .bytes ∙ sym (shown-holds r n bs first e)
 
-  frame-by : (b : Bool) → oneLower (steps (opened r n) bs) ≡ b → ended r n bs (cond b (steps (opened r n) bs .one) (steps (opened r n) bs .two)) ≡ frameOf r n bs
-  unfolding frameOf lower
-  frame-by b e = ap (λ (z : Bool). ended r n bs (cond z (steps (opened r n) bs .one) (steps (opened r n) bs .two))) (sym e)
-
-  pub framed-first :
-      (f : Bool) (q : Run) (x₁ : List ℕ) → f ≡ leb (magnitude (p .one .run .dsv)) (magnitude (p .two .run .dsv)) → f ≡ true → Closes r n (p .one .run) x x₁ q
-      → Framed r n bs x₁ y (record { run = q; first = true })
-  framed-first f q x₁ fe t k =
-      let o = lower-is f fe true t in
-      let w = subst (Whole q x₁) (frame-by true o) (k .so bs (steps (opened r n) bs .one) (laid-both .first) one-whole) in
-      record { first = sym o; run = w .run; one = w .bytes; two = two-whole .bytes }
-
-  pub framed-second :
-      (f : Bool) (q : Run) (y₁ : List ℕ) → f ≡ leb (magnitude (p .one .run .dsv)) (magnitude (p .two .run .dsv)) → f ≡ false → Closes r n (p .two .run) y y₁ q
-      → Framed r n bs x y₁ (record { run = q; first = false })
-  framed-second f q y₁ fe t k =
-      let o = lower-is f fe false t in
-      let w = subst (Whole q y₁) (frame-by false o) (k .so bs (steps (opened r n) bs .two) (laid-both .second) two-whole) in
-      record { first = sym o; run = w .run; one = one-whole .bytes; two = w .bytes }
-
--- the stream shown
-pub shown : (r : Run) (n : ℕ) (bs x y : List ℕ) (q : Shown) → Framed r n bs x y q → cond (q .first) x y ≡ packed (frameOf r n bs .halves)
-shown r n bs x y q f = by (q .first) (f .one) (f .two)
-  where
-    by : (b : Bool) → x ≡ packed (cond b (frameOf r n bs) (steps (opened r n) bs .one) .halves) → y ≡ packed (cond b (steps (opened r n) bs .two) (frameOf r n bs) .halves)
-        → cond b x y ≡ packed (frameOf r n bs .halves)
-    by true h k = h
-    by false h k = k
+    pub run-shown : q ≡ frameOf r n bs .run
+    run-shown = is-shown .run

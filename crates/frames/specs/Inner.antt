@@ -1,23 +1,21 @@
--- The vocabulary of inner contracts: what the buffers of two streams hold. No law cites it.
+-- Vocabulary of inner contracts: what step.rt and end.rt hand to each other while a frame is laid, and what the buffers of two streams hold then. No function
+-- that is public, be it between crates, cites it; `frames::frame` is stated with Frame and streams' Streams.
 -- Assumes nothing.
 use mathlib.Core.Path.{_≡_}
 use mathlib.Core.Bool.{Bool, false, cond, _&&_, _||_}
 use mathlib.Core.List.{List}
-use Prim.Native.Nat.{ℕ, _+_, _<_, _≤_}
+use Prim.Native.Nat.{ℕ, _+_, _≤_}
 use lib.Dec.{eqb, ltb}
-use lib.ListN.{length, take}
-use Rattle.annexg.specs.Read.{State}
+use lib.ListN.{take}
 use Rattle.channel.specs.Block.{packed}
 use Rattle.channel.specs.Channel.{byte}
-use Rattle.levels.specs.Level.{Room}
 use Rattle.levels.specs.declared.Run.{Run}
 use Rattle.streams.proofs.Laid.{Laid}
-use Rattle.streams.specs.Streams.{Stream, lay, Two, oneLower, opened, steps, frameItems, ended, frameOf}
+use Rattle.streams.specs.Streams.{Stream, lay, Two, frameItems, ended}
 use Rattle.laying.specs.Sides.{Next}
 use Rattle.laying.specs.declared.Side.{Side}
 use Rattle.frames.specs.declared.Pair.{Pair}
 use Rattle.frames.specs.declared.Plan.{Plan}
-use Rattle.frames.specs.declared.Shown.{Shown}
 
 -- ---- one stream
 
@@ -59,16 +57,7 @@ pub record Ready (p : Pair) (at : ℕ) (x y : List ℕ) : Type 0 where
   pub early : p .shared ≤ at
   pub agree : take (p .shared) x ≡ take (p .shared) y
 
--- ---- a frame
-
--- a frame may begin
-pub record Begins (r : Run) (n : ℕ) (bs x y : List ℕ) : Type 0 where
-  pub state : State (r .state)
-  pub code : n < 8
-  pub room : Room r 1488
-  pub bytes : length bs ≡ 91
-  pub one : length x ≡ 186
-  pub two : length y ≡ 186
+-- ---- a frame's end
 
 -- r and the buffer x are the whole of a stream
 pub record Whole (r : Run) (x : List ℕ) (m : Stream) : Type 0 where
@@ -78,10 +67,3 @@ pub record Whole (r : Run) (x : List ℕ) (m : Stream) : Type 0 where
 -- the frame's end: whatever stream over a frame of SYn the buffer x held, y holds it as the rule ends it
 pub record Closes (r : Run) (n : ℕ) (low : Run) (x y : List ℕ) (q : Run) : Type 0 where
   pub so : (bs : List ℕ) (m : Stream) → Laid r (frameItems n bs) m → Whole low x m → Whole q y (ended r n bs m)
-
--- a frame was written: the lower stream is shown, with its SYNC Code changed where that is better; the other buffer keeps its own stream
-pub record Framed (r : Run) (n : ℕ) (bs x y : List ℕ) (q : Shown) : Type 0 where
-  pub first : q .first ≡ oneLower (steps (opened r n) bs)
-  pub run : q .run ≡ frameOf r n bs .run
-  pub one : x ≡ packed (cond (q .first) (frameOf r n bs) (steps (opened r n) bs .one) .halves)
-  pub two : y ≡ packed (cond (q .first) (steps (opened r n) bs .two) (frameOf r n bs) .halves)

@@ -1,1 +1,2 @@
+pub mod Frame
 pub mod Inner

@@ -3,10 +3,12 @@ mod end;
 mod step;
 
 ghost use mathlib.Core.Path.{_≡_};
+ghost use mathlib.Core.Bool.{true, false};
 ghost use Rattle.annexg.specs.Read.{tableOf};
 ghost use Rattle.annexg.specs.Sync.{syncTable};
 ghost use Rattle.levels.specs.Levels.{levelTable};
-ghost use Rattle.frames.specs.Inner.{Begins, Framed};
+ghost use Rattle.streams.specs.Streams.{oneLower, filled, frameOf, bufferAfter};
+ghost use Rattle.frames.specs.Frame.{Begins};
 use end::change;
 use laying::Side;
 use levels::Run;
@@ -33,7 +35,7 @@ pub struct Shown {
     pub first: bool,
 }
 
-// A frame of 91 bytes, and which of the two buffers shows it.
+// A frame of 91 bytes, and which of the two buffers shows it. At its end the SYNC Code may be changed in that buffer; the other keeps its own stream.
 pub fn frame(
     m: &[u32; 1024],
     u: &[u32; 352],
@@ -46,7 +48,10 @@ pub fn frame(
     s2: &mut [u8],
 ) -> Shown
     requires { ⌜ (now v ≡ levelTable) × ((now m ≡ tableOf 0) × ((now u ≡ tableOf 1) × ((now y ≡ syncTable) × Begins r n (now bytes) (now s1) (now s2)))) ⌝ }
-    ensures { λ q. ⌜ Framed r n (now (bytes .entry)) (now (s1 .exit)) (now (s2 .exit)) q ⌝ }
+    ensures shown { λ q. ⌜ q .first ≡ oneLower (filled r n (now (bytes .entry))) ⌝ }
+    ensures one { λ q. ⌜ now (s1 .exit) ≡ bufferAfter true r n (now (bytes .entry)) ⌝ }
+    ensures two { λ q. ⌜ now (s2 .exit) ≡ bufferAfter false r n (now (bytes .entry)) ⌝ }
+    ensures run { λ q. ⌜ q .run ≡ frameOf r n (now (bytes .entry)) .run ⌝ }
 {
     let p = fill(m, u, y, v, r, n, bytes, &mut *s1, &mut *s2);
     let one = p.one.run;

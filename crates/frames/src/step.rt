@@ -10,8 +10,9 @@ ghost use Rattle.annexg.specs.Sync.{syncTable};
 ghost use Rattle.channel.specs.Channel.{swaps};
 ghost use Rattle.levels.specs.Level.{magnitude};
 ghost use Rattle.levels.specs.Levels.{levelTable};
-ghost use Rattle.streams.specs.Streams.{Two, swapPossible, step, steps, opened};
-ghost use Rattle.frames.specs.Inner.{Shows, planOf, Evened, Ready, Begins};
+ghost use Rattle.streams.specs.Streams.{Two, swapPossible, step, filled};
+ghost use Rattle.frames.specs.Frame.{Begins};
+ghost use Rattle.frames.specs.Inner.{Shows, planOf, Evened, Ready, Whole};
 use super::Pair;
 use super::Plan;
 use laying::Side;
@@ -156,7 +157,8 @@ pub(crate) fn fill(
     s2: &mut [u8],
 ) -> Pair
     requires { ⌜ (now v ≡ levelTable) × ((now m ≡ tableOf 0) × ((now u ≡ tableOf 1) × ((now y ≡ syncTable) × Begins r n (now bytes) (now s1) (now s2)))) ⌝ }
-    ensures { λ p. ⌜ Shows p (now (s1 .exit)) (now (s2 .exit)) 186 (steps (opened r n) (now (bytes .entry))) ⌝ }
+    ensures one { λ p. ⌜ Whole (p .one .run) (now (s1 .exit)) (filled r n (now (bytes .entry)) .one) ⌝ }
+    ensures two { λ p. ⌜ Whole (p .two .run) (now (s2 .exit)) (filled r n (now (bytes .entry)) .two) ⌝ }
 {
     let one = laying::lay_sync(y, v, r, n, false, &mut *s1);
     let two = laying::lay_sync(y, v, r, n, true, &mut *s2);

@@ -11,7 +11,8 @@ use Rattle.annexg.specs.Sync.{syncEnd, codeFor}
 use Rattle.channel.specs.Channel.{sync, byte, entryFor}
 use Rattle.levels.specs.Level.{runAfter}
 use Rattle.levels.specs.declared.Run.{Run}
-use Rattle.laying.specs.Sides.{tableFor, columnFor, sideAfter}
+use Rattle.laying.specs.Inner.{tableFor, columnFor}
+use Rattle.laying.specs.Sides.{sideAfter}
 use Rattle.laying.specs.declared.Side.{Side}
 
 from-88 : (b : ℕ) (x : Bool) → ltb b 88 ≡ x → leb 88 b ≡ not x

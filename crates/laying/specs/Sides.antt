@@ -1,22 +1,15 @@
--- An item laid at the end of a stream: vocabulary of inner contracts. No law cites it.
+-- An item laid at the end of a stream: what `put`, `lay_word` and `lay_sync`, public between crates, ask and promise. `putAt` is a buffer after a half word,
+-- `sideAfter` the end of a stream after an item, `Next` when a word may be laid.
 -- Assumes nothing.
-use mathlib.Core.Bool.{Bool, cond, _&&_}
+use mathlib.Core.Bool.{Bool}
 use mathlib.Core.List.{List}
-use Prim.Native.Nat.{ℕ, _+_, _-_, _/_, _%_, _<_}
-use lib.Dec.{leb, ltb}
+use Prim.Native.Nat.{ℕ, _+_, _/_, _%_, _<_}
 use lib.ListN.{length, set}
 use Rattle.annexg.specs.Read.{State}
 use Rattle.channel.specs.Channel.{Item, halvesFor, nextFor, lastFor}
 use Rattle.levels.specs.Level.{runAfter, Room}
 use Rattle.levels.specs.declared.Run.{Run}
 use Rattle.laying.specs.declared.Side.{Side}
-
--- table and column of the entry that a choice takes for byte b in State s
-abbrev pub tableFor : ℕ → Bool → ℕ
-tableFor b c = cond (c && ltb b 88) 1 0
-
-abbrev pub columnFor : ℕ → ℕ → Bool → ℕ
-columnFor s b c = cond (c && leb 88 b) (4 - s) (s - 1)
 
 -- a buffer with the two bytes of a half word put at the byte `at`
 abbrev pub putAt : List ℕ → ℕ → ℕ → List ℕ

@@ -7,7 +7,8 @@ ghost use Rattle.annexg.specs.Sync.{syncTable, syncEnd, codeFor};
 ghost use Rattle.channel.specs.Channel.{sync, byte, lastFor};
 ghost use Rattle.levels.specs.Level.{Room};
 ghost use Rattle.levels.specs.Levels.{levelTable};
-ghost use Rattle.laying.specs.Sides.{tableFor, columnFor, putAt, sideAfter, Next};
+ghost use Rattle.laying.specs.Inner.{tableFor, columnFor};
+ghost use Rattle.laying.specs.Sides.{putAt, sideAfter, Next};
 use levels::Run;
 
 // The end of a stream: its running record and its last half word.
@@ -56,7 +57,8 @@ pub fn lay_word(
     s: &mut [u8],
 ) -> Side
     requires { ⌜ (now v ≡ levelTable) × ((now m ≡ tableOf 0) × ((now u ≡ tableOf 1) × Next d at (now s))) ⌝ }
-    ensures { λ q. ⌜ (q ≡ sideAfter (d .run) (byte b) c) × (now (s .exit) ≡ putAt (now (s .entry)) at (lastFor (d .run .state) (byte b) c)) ⌝ }
+    ensures { λ q. ⌜ q ≡ sideAfter (d .run) (byte b) c ⌝ }
+    ensures { λ q. ⌜ now (s .exit) ≡ putAt (now (s .entry)) at (lastFor (d .run .state) (byte b) c) ⌝ }
 {
     let run = d.run;
     let t = table_for(b, c);
@@ -71,7 +73,8 @@ pub fn lay_word(
 // A SYNC Code at the front of a buffer.
 pub fn lay_sync(y: &[u16; 32], v: &[u8; 256], r: Run, n: u8, c: bool, s: &mut [u8]) -> Side
     requires { ⌜ (now v ≡ levelTable) × ((now y ≡ syncTable) × (Room r 32 × (4 ≤ length (now s)))) ⌝ }
-    ensures { λ q. ⌜ (q ≡ sideAfter r (sync n) c) × (now (s .exit) ≡ putAt (putAt (now (s .entry)) 0 (codeFor (r .state) n c)) 2 syncEnd) ⌝ }
+    ensures { λ q. ⌜ q ≡ sideAfter r (sync n) c ⌝ }
+    ensures { λ q. ⌜ now (s .exit) ≡ putAt (putAt (now (s .entry)) 0 (codeFor (r .state) n c)) 2 syncEnd ⌝ }
 {
     let h = annexg::sync_code(y, r.state, n, c);
     put(&mut *s, 0, h);

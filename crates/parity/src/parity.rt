@@ -3,7 +3,7 @@ ghost use mathlib.Core.Path.{_≡_};
 ghost use lib.ListN.{take};
 ghost use Rattle.codes.specs.Parity.{parity};
 ghost use Rattle.multiples.specs.Multiples.{multiples};
-ghost use Rattle.parity.specs.Unpacked.{unpacked};
+ghost use Rattle.division.specs.Unpacked.{unpacked};
 
 // The bytes of a register of ten places.
 pub fn unpack10(high: u64, low: u64) -> [u8; 10]
@@ -28,7 +28,7 @@ pub fn parity10_with(m: &[u64; 512], d: &[u8]) -> [u8; 10]
     requires { ⌜ now m ≡ multiples 10 ⌝ }
     ensures { λ r. ⌜ r ≡ parity 10 (now (d .entry)) ⌝ }
 {
-    let x = division::divide(m, d);
+    let x = division::divide(m, d, 10);
     unpack10(x.high, x.low)
 }
 
@@ -36,7 +36,7 @@ pub fn parity16_with(m: &[u64; 512], d: &[u8]) -> [u8; 16]
     requires { ⌜ now m ≡ multiples 16 ⌝ }
     ensures { λ r. ⌜ r ≡ parity 16 (now (d .entry)) ⌝ }
 {
-    let x = division::divide(m, d);
+    let x = division::divide(m, d, 16);
     crate::places::unpack(x.high, x.low)
 }
 

@@ -1,10 +1,10 @@
 // The bytes of a packed register.
 ghost use mathlib.Core.Path.{_≡_};
 ghost use Prim.Native.Nat.{_/_, _%_, _^_, _<_};
-ghost use Rattle.parity.specs.Unpacked.{unpacked};
+ghost use Rattle.division.specs.Unpacked.{unpacked};
 
 // One byte of a number, with k bits after it.
-pub fn byte(x: u64, k: u64) -> u8
+pub(crate) fn byte(x: u64, k: u64) -> u8
     requires { ⌜ k < 64 ⌝ }
     ensures { λ r. ⌜ r ≡ x / 2 ^ k % 256 ⌝ }
 {

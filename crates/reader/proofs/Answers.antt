@@ -1,14 +1,14 @@
--- The sector reader's answer and buffer, case by case.
+-- The sector reader's answer, its number and its buffer, case by case.
 -- Assumes nothing.
-use mathlib.Core.Path.{_≡_}
-use mathlib.Core.Bool.{true, false}
+use mathlib.Core.Path.{_≡_, refl}
+use mathlib.Core.Bool.{Bool, true, false, cond}
 use mathlib.Core.List.{List}
 use mathlib.Core.Logic.{_≢_}
 use Prim.Native.Nat.{ℕ}
 use borrow.Author.Tests.{eq-eqb, ne-eqb}
 use lib.ListN.{length}
 use Rattle.channel.specs.Block.{readSector}
-use Rattle.reader.specs.Sector.{sectorFits, sectorAnswer, sectorAfter, unknownTally, syncTally}
+use Rattle.reader.specs.Sector.{sectorFits, sectorAnswer, sectorAfter, sectorReadRefusal, sectorNumber, unknownTally, syncTally}
 use Rattle.reader.specs.declared.SectorRead.the-variants.{Sector, LengthRefused}
 
 module _ (xs : List ℕ) (n : ℕ) where
@@ -31,6 +31,14 @@ module _ (xs : List ℕ) (n : ℕ) where
   pub tallied : sectorFits xs n ≡ true → Sector (unknownTally xs) (syncTally xs) ≡ sectorAnswer xs n
   unfolding sectorAnswer
   tallied e = rw e
+
+  pub sector-number : sectorNumber (sectorAnswer xs n) ≡ sectorReadRefusal xs n
+  unfolding sectorAnswer sectorReadRefusal
+  sector-number = go (sectorFits xs n)
+    where
+      go : (b : Bool) → sectorNumber (cond b (Sector (unknownTally xs) (syncTally xs)) LengthRefused) ≡ cond b 0 1
+      go true = refl
+      go false = refl
 
 module _ (xs old : List ℕ) where
   pub buffer-left : sectorFits xs (length old) ≡ false → old ≡ sectorAfter xs old

@@ -3,37 +3,46 @@
 use mathlib.Core.Path.{_≡_, refl, sym, ap, _∙_}
 use mathlib.Core.Bool.{Bool, not}
 use mathlib.Core.List.{List}
-use Prim.Native.Nat.{ℕ, _+_, _*_, _/_, _%_}
+use Prim.Native.Nat.{ℕ, _+_, _*_, _/_, _%_, _<_}
 use native.Mathlib.Omega.{arith}
 use Rattle.lists.specs.Count.{bit}
-use Rattle.annexg.specs.Read.{readWord}
-use Rattle.wordindex.specs.Index.{readingNumber}
+use Rattle.annexg.specs.Read.{readWord, readingNumber}
+use Rattle.annexg.proofs.Stands.{byte-small}
 use Rattle.annexg.specs.declared.Reading.{Reading}
 use Rattle.annexg.specs.declared.Reading.the-variants.{Byte, Unknown}
 use Rattle.channel.specs.Block.{codeOf, byteOf, halfOf, halfAt, readAt}
 use Rattle.reader.specs.Sector.{isUnknown, unknownAt, isSync, lostSync}
 
--- a reading's byte and whether it is unknown, from its number
-number-byte : (r : Reading) → readingNumber r / 2 ≡ byteOf r
-number-byte (Byte b) = omega arith
-number-byte Unknown = refl
+-- a reading's byte and whether it is unknown, from its number; a byte is below 256
+Small : Reading → Type 0
+Small r = (b : ℕ) → r ≡ Byte b → b < 256
 
-number-unknown : (r : Reading) → readingNumber r % 2 ≡ bit (isUnknown r)
-number-unknown (Byte b) = omega arith
-number-unknown Unknown = refl
+number-byte : (r : Reading) → Small r → readingNumber r % 256 ≡ byteOf r
+unfolding Small
+number-byte (Byte b) small = omega (arith, small b refl)
+number-byte Unknown small = refl
+
+number-unknown : (r : Reading) → Small r → readingNumber r / 256 ≡ bit (isUnknown r)
+unfolding Small
+number-unknown (Byte b) small = omega (arith, small b refl)
+number-unknown Unknown small = refl
 
 -- byte i's word w and the half word f after it were read as the number n
 module _ (xs : List ℕ) (i w f n : ℕ) (hw : w ≡ halfAt xs (halfOf i)) (hf : f ≡ halfAt xs (halfOf i + 1)) (hn : n ≡ readingNumber (readWord w f)) where
   number-is : n ≡ readingNumber (readWord (halfAt xs (halfOf i)) (halfAt xs (halfOf i + 1)))
   number-is = rw (← hw, ← hf) hn
 
-  pub byte-is : n / 2 ≡ readAt xs i
-  unfolding readAt
-  byte-is = ap (λ (k : ℕ). k / 2) number-is ∙ number-byte (readWord (halfAt xs (halfOf i)) (halfAt xs (halfOf i + 1)))
+  small : Small (readWord (halfAt xs (halfOf i)) (halfAt xs (halfOf i + 1)))
+  unfolding Small
+  small = byte-small (halfAt xs (halfOf i)) (halfAt xs (halfOf i + 1))
 
-  pub unknown-is : n % 2 ≡ bit (unknownAt xs i)
+  pub byte-is : n % 256 ≡ readAt xs i
+  unfolding readAt
+  byte-is = ap (λ (k : ℕ). k % 256) number-is ∙ number-byte (readWord (halfAt xs (halfOf i)) (halfAt xs (halfOf i + 1))) small
+
+  pub unknown-is : n / 256 ≡ bit (unknownAt xs i)
   unfolding unknownAt
-  unknown-is = ap (λ (k : ℕ). k % 2) number-is ∙ number-unknown (readWord (halfAt xs (halfOf i)) (halfAt xs (halfOf i + 1)))
+  unknown-is = ap (λ (k : ℕ). k / 256) number-is ∙ number-unknown (readWord (halfAt xs (halfOf i)) (halfAt xs (halfOf i + 1))) small
 
 -- the half words a and b of frame f's SYNC place are, or are not, SYn
 pub place-is :

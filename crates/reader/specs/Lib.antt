@@ -1,1 +1,2 @@
 pub mod Sector
+pub mod Session

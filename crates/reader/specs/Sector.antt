@@ -23,7 +23,7 @@ isUnknown Unknown = true
 unfoldable pub unknownAt : List ℕ → ℕ → Bool
 unknownAt xs i = isUnknown (readWord (halfAt xs (halfOf i)) (halfAt xs (halfOf i + 1)))
 
--- the half words a and b are one of the four codes of SYn: Primary or Secondary, of either class
+-- the half words a and b are one of the four codes of SYn, n at most 7: Primary or Secondary, of either class
 unfoldable pub isSync : ℕ → ℕ → ℕ → Bool
 isSync n a b =
     (eqb a (codeFor 1 n false) || (eqb a (codeFor 1 n true) || (eqb a (codeFor 3 n false) || eqb a (codeFor 3 n true)))) && eqb b syncEnd
@@ -49,6 +49,10 @@ sectorAnswer xs n = cond (sectorFits xs n) (Sector (unknownTally xs) (syncTally 
 
 unfoldable pub sectorAfter : List ℕ → List ℕ → List ℕ
 sectorAfter xs old = cond (sectorFits xs (length old)) (readSector xs) old
+
+-- the number that a call is refused with: 1 where a length is another than stated, 0 where nothing is refused
+unfoldable pub sectorReadRefusal : List ℕ → ℕ → ℕ
+sectorReadRefusal xs n = cond (sectorFits xs n) 0 1
 
 -- document 01's number for each answer, 0 where nothing is refused
 abbrev pub sectorNumber : SectorRead → ℕ

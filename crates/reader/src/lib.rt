@@ -8,7 +8,7 @@ ghost use Rattle.annexg.specs.Read.{tableOf};
 ghost use Rattle.wordindex.specs.Index.{wordIndex};
 ghost use Rattle.annexg.specs.Sync.{syncTable};
 ghost use Rattle.channel.specs.Block.{frameCodes, codeOf, halfAt, readSector};
-ghost use Rattle.reader.specs.Sector.{isSync, lostSync, unknownTally, syncTally, sectorAnswer, sectorAfter, sectorNumber};
+ghost use Rattle.reader.specs.Sector.{isSync, lostSync, unknownTally, syncTally, sectorAnswer, sectorAfter, sectorReadRefusal, sectorNumber};
 
 // What the sector reader answers. Document 01's number of each is `sectorNumber`.
 pub enum SectorRead {
@@ -31,7 +31,8 @@ fn half(stream: &[u8], k: usize) -> u16
 
 // ---- the words
 
-// Every word is judged with the half word after it: for the last word of a frame that is a SYNC Code's, and for the sector's last word the two bytes after the sector.
+// Every word is judged with the half word after it: for the last word of a frame that is the first of the next SYNC place, and for the sector's last word the
+// two bytes after the sector.
 fn read_bytes(
     m: &[u32; 1024],
     u: &[u32; 352],
@@ -50,8 +51,9 @@ fn read_bytes(
         let w = half(stream, k);
         let f = half(stream, k + 1);
         let r = wordindex::read_indexed(m, u, x, w, f);
-        out[i] = (r / 2) as u8;
-        unknown += r % 2;
+        // the byte, or 256 for an unknown word, which gives byte 0
+        out[i] = (r % 256) as u8;
+        unknown += r / 256;
         i += 1;
     }
     unknown
@@ -104,7 +106,7 @@ fn sync_due(c: &[u8; 26], f: usize) -> u8
     c[at]
 }
 
-// Two half words are one of the four codes of SYn. States 1 and 3 stand for the two classes.
+// Two half words are one of the four codes of SYn, n at most 7. States 1 and 3 stand for the two classes.
 fn is_sync(y: &[u16; 32], n: u8, a: u16, b: u16) -> bool
     requires { ⌜ now y ≡ syncTable ⌝ }
     ensures { λ r. ⌜ r ≡ isSync n a b ⌝ }
@@ -166,7 +168,9 @@ pub fn read_sector_with(
     out: &mut [u8],
 ) -> SectorRead
     requires { ⌜ (now m ≡ tableOf 0) × (now u ≡ tableOf 1) × (now x ≡ wordIndex) × (now y ≡ syncTable) ⌝ }
-    ensures { λ r. ⌜ (r ≡ sectorAnswer (now (stream .entry)) (length (now (out .entry)))) × (now (out .exit) ≡ sectorAfter (now (stream .entry)) (now (out .entry))) ⌝ }
+    ensures { λ r. ⌜ r ≡ sectorAnswer (now (stream .entry)) (length (now (out .entry))) ⌝ }
+    ensures { λ r. ⌜ sectorNumber r ≡ sectorReadRefusal (now (stream .entry)) (length (now (out .entry))) ⌝ }
+    ensures { λ r. ⌜ now (out .exit) ≡ sectorAfter (now (stream .entry)) (now (out .entry)) ⌝ }
 {
     if stream.len() != 4838 {
         return SectorRead::LengthRefused;
@@ -181,7 +185,9 @@ pub fn read_sector_with(
 
 // The sector reader.
 pub fn read_sector(stream: &[u8], out: &mut [u8]) -> SectorRead
-    ensures { λ r. ⌜ (r ≡ sectorAnswer (now (stream .entry)) (length (now (out .entry)))) × (now (out .exit) ≡ sectorAfter (now (stream .entry)) (now (out .entry))) ⌝ }
+    ensures { λ r. ⌜ r ≡ sectorAnswer (now (stream .entry)) (length (now (out .entry))) ⌝ }
+    ensures { λ r. ⌜ sectorNumber r ≡ sectorReadRefusal (now (stream .entry)) (length (now (out .entry))) ⌝ }
+    ensures { λ r. ⌜ now (out .exit) ≡ sectorAfter (now (stream .entry)) (now (out .entry)) ⌝ }
 {
     let m = annexg::main_table();
     let u = annexg::sub_table();

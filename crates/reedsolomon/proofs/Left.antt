@@ -1,42 +1,44 @@
--- What is left of a received word tells whether it is a code word, and gives its syndromes.
+-- The syndromes of a received word, from what the generator leaves of it. For any number of roots of which the generator is known to be right.
 -- Assumes nothing.
 use mathlib.Core.Path.{_≡_, sym, ap, ap₂, _∙_}
-use mathlib.Core.Bool.{Bool, _&&_}
+use mathlib.Core.Bool.{Bool, true, _&&_}
 use mathlib.Core.List.{List}
 use Prim.Native.Nat.{ℕ, _+_, _≤_}
 use native.Mathlib.Omega.{arith}
-use lib.Dec.{eqb}
-use lib.ListN.{length, take}
+use lib.Dec.{eqb, eqb→eq}
+use lib.ListN.{length, take, replicate, length-replicate}
 use Rattle.lists.specs.Bytes.{Bytes}
 use Rattle.lists.specs.Fill.{tabulate}
-use Rattle.lists.proofs.Fill.{tabulate-same}
-use Rattle.lists.proofs.Test.{truth}
-use Rattle.codes.specs.Word.{syndrome, isCode}
-use Rattle.codes.specs.Parity.{parity}
-use Rattle.codes.specs.Nearest.{nearest, outcomeOf}
-use Rattle.codes.specs.declared.Outcome.the-variants.{Clean}
-use Rattle.codes.proofs.Words.{test-of-code}
-use Rattle.codes.proofs.Division.{Code, sixteen-roots}
-use Rattle.codes.proofs.Decision.{clean}
+use Rattle.lists.proofs.Bytes.{zeros-bytes}
+use Rattle.lists.proofs.Fill.{is-tabulate, tabulate-same}
+use Rattle.lists.proofs.Test.{and-left, and-right, truth-of}
+use Rattle.field.specs.Field.{pow}
+use Rattle.codes.specs.Word.{valueAt, syndrome}
+use Rattle.codes.proofs.Division.{Code, zeros-valueAt}
 use Rattle.multiples.specs.Multiples.{high, low}
-use Rattle.division.specs.Packed.{Packed, remainderOf}
-use Rattle.parity.specs.Unpacked.{unpacked}
-use Rattle.parity.proofs.Unpacked.{unpacked-register}
-use Rattle.division.proofs.Words.{left-length, left-bytes, left-syndrome, code-test, divided-code}
+use Rattle.division.specs.Packed.{remainderOf}
+use Rattle.division.specs.Unpacked.{unpacked}
+use Rattle.division.proofs.Division.{zeros-place, packed-zeros}
+use Rattle.division.proofs.Unpacked.{unpacked-register}
+use Rattle.division.proofs.Words.{left-length, left-bytes, left-syndrome}
 
-module _ (p : ℕ) (c : Code p) (few : p ≤ 16) (w : List ℕ) (hw : Bytes w) (le : p ≤ length w) (h l : ℕ) (e : (h ≡ high (remainderOf p w)) × (l ≡ low (remainderOf p w))) where
-  pub told : (z : Bool) → z ≡ (eqb h 0 && eqb l 0) → z ≡ isCode p w
-  told z t = t ∙ ap₂ (λ (x y : ℕ). eqb x 0 && eqb y 0) (e .0) (e .1) ∙ code-test p w hw le c few
+-- nothing is left: the syndromes are zeros
+pub syndromes-none : (p h l : ℕ) → p ≤ 16 → (b : Bool) → b ≡ (eqb h 0 && eqb l 0) → b ≡ true → replicate p 0 ≡ tabulate (syndrome (take p (unpacked h l))) p
+unfolding syndrome valueAt
+syndromes-none p h l few b eb t =
+    let both = truth-of (eqb h 0 && eqb l 0) (sym eb ∙ t) in
+    let zh : h ≡ high (replicate p 0) = eqb→eq h 0 (and-left (eqb h 0) (eqb l 0) both) ∙ packed-zeros p .first in
+    let zl : l ≡ low (replicate p 0) = eqb→eq l 0 (and-right (eqb h 0) (eqb l 0) both) ∙ packed-zeros p .second in
+    let e : take p (unpacked h l) ≡ replicate p 0 =
+    ap₂ (λ (x y : ℕ). take p (unpacked x y)) zh zl ∙ unpacked-register p (replicate p 0) (zeros-bytes p) (length-replicate p 0) few in
+    is-tabulate (syndrome (take p (unpacked h l))) (replicate p 0) p (length-replicate p 0)
+    (λ i m. zeros-place p i ∙ sym (ap (λ (w : List ℕ). valueAt w (pow 2 i)) e ∙ zeros-valueAt (pow 2 i) p))
 
-  pub sums : (s : List ℕ) → s ≡ tabulate (syndrome (take p (unpacked h l))) p → s ≡ tabulate (syndrome w) p
-  sums s t =
-      t
-      ∙ ap (λ (b : List ℕ). tabulate (syndrome b) p)
-      (ap₂ (λ (x y : ℕ). take p (unpacked x y)) (e .0) (e .1) ∙ unpacked-register p (remainderOf p w) (left-bytes p w hw le) (left-length p w hw le) few)
-      ∙ tabulate-same (syndrome (remainderOf p w)) (syndrome w) 0 0 p (λ i m. sym (left-syndrome p w hw le c (0 + i) (omega arith)))
-
--- a column that leaves a register of zeros when all its bytes are divided is Clean
-pub column-clean : (w : List ℕ) → Bytes w → length w ≤ 255 → Packed 16 (parity 16 w) 0 0 → (w ≡ nearest 16 8 w) × (Clean ≡ outcomeOf 16 8 w)
-column-clean w hw short z =
-    clean 16 8 w hw short (omega arith)
-    (truth (isCode 16 w) (test-of-code 16 w (divided-code 16 sixteen-roots w hw (omega arith) (sym (z .first)) (sym (z .second)))))
+-- h and l are what is left of w: their syndromes are those of w
+pub syndromes-left : (p : ℕ) → Code p → p ≤ 16 → (w : List ℕ) → Bytes w → p ≤ length w → (h l : ℕ) → h ≡ high (remainderOf p w) → l ≡ low (remainderOf p w)
+    → tabulate (syndrome (take p (unpacked h l))) p ≡ tabulate (syndrome w) p
+syndromes-left p c few w hw le h l eh el =
+    let r : List ℕ = remainderOf p w in
+    ap (λ (b : List ℕ). tabulate (syndrome b) p)
+    (ap₂ (λ (x y : ℕ). take p (unpacked x y)) eh el ∙ unpacked-register p r (left-bytes p w hw le) (left-length p w hw le) few)
+    ∙ tabulate-same (syndrome r) (syndrome w) 0 0 p (λ i m. sym (left-syndrome p w hw le c (0 + i) (omega arith)))

@@ -1,16 +1,14 @@
 // The repair of a column of 208 bytes with 16 roots: the nearest code column within eight bytes (document 01, 'Reading a word, and the repair').
 ghost use mathlib.Core.Path.{_≡_};
 ghost use Prim.Native.Nat.{ℕ, _<_, _≤_};
-ghost use lib.ListN.{getD, take};
+ghost use lib.ListN.{length, getD, take};
 ghost use Rattle.lists.specs.Fill.{tabulate};
 ghost use Rattle.field.specs.Tables.{LogTable};
 ghost use Rattle.codes.specs.Word.{syndrome};
 ghost use Rattle.codes.specs.Nearest.{nearest, outcomeOf};
 ghost use Rattle.multiples.specs.Multiples.{multiples};
-ghost use Rattle.parity.specs.Unpacked.{unpacked};
-ghost use Rattle.codes.specs.Decoding.{at, Locator, NonZero, rootPlaces, mended};
+ghost use Rattle.codes.specs.Decoding.{at, Locator, Places, mended};
 use codes::Outcome;
-use division::Remainder;
 
 // A column and what became of it. As rows do, it goes in by value and comes back.
 pub struct Column {
@@ -24,15 +22,13 @@ struct ColumnPlaces {
     count: usize,
 }
 
-// The syndromes of a received column, from what is left of it.
-fn column_syndromes(t: &[u8; 768], x: Remainder) -> [u8; 16]
-    requires { ⌜ LogTable (now t) ⌝ }
-    ensures { λ r. ⌜ r ≡ tabulate (syndrome (take 16 (unpacked (x .high) (x .low)))) 16 ⌝ }
+// The sixteen syndromes of a column: its sums at the roots (document 01). They decide whether it is a code column.
+fn column_syndromes(t: &[u8; 768], m: &[u64; 512], w: [u8; 208]) -> [u8; 16]
+    requires { ⌜ LogTable (now t) × (now m ≡ multiples 16) ⌝ }
+    ensures { λ r. ⌜ r ≡ tabulate (syndrome w) 16 ⌝ }
 {
-    let b = parity::unpack(x.high, x.low);
-    let mut s = [0u8; 16];
-    crate::syndromes::syndromes_into(t, &b, &mut s);
-    s
+    let x = division::remainder_of(m, &w, 16);
+    crate::syndromes::syndromes16(t, x)
 }
 
 fn column_locator(t: &[u8; 768], s: [u8; 16]) -> [u8; 9]
@@ -45,17 +41,18 @@ fn column_locator(t: &[u8; 768], s: [u8; 16]) -> [u8; 9]
     v
 }
 
-fn column_search(t: &[u8; 768], l: [u8; 9]) -> ColumnPlaces
-    requires { ⌜ LogTable (now t) × NonZero l ⌝ }
-    ensures { λ r. ⌜ (r .count ≤ 8) × (take (r .count) (r .at) ≡ rootPlaces l 208) ⌝ }
+fn column_search(t: &[u8; 768], s: [u8; 16]) -> ColumnPlaces
+    requires { ⌜ LogTable (now t) ⌝ }
+    ensures { λ r. ⌜ (r .count ≤ length (r .at)) × Places (at s) 8 208 (take (r .count) (r .at)) ⌝ }
 {
+    let l = column_locator(t, s);
     let mut at = [0u8; 8];
     let count = crate::search::search(t, &l, 208, &mut at);
     ColumnPlaces { at, count }
 }
 
 fn column_mend(t: &[u8; 768], w: [u8; 208], s: [u8; 16], p: ColumnPlaces) -> [u8; 208]
-    requires { ⌜ LogTable (now t) × (p .count ≤ 8) × ((j : ℕ) → j < p .count → getD (p .at) j 0 < 208) ⌝ }
+    requires { ⌜ LogTable (now t) × (p .count ≤ length (p .at)) × ((j : ℕ) → j < p .count → getD (p .at) j 0 < 208) ⌝ }
     ensures { λ r. ⌜ r ≡ mended (at s) (take (p .count) (p .at)) w ⌝ }
 {
     let at = p.at;
@@ -66,25 +63,22 @@ fn column_mend(t: &[u8; 768], w: [u8; 208], s: [u8; 16], p: ColumnPlaces) -> [u8
     m
 }
 
-// The repair, over lent tables: of logarithms, and of the generator's multiples.
-pub fn correct_column_with(t: &[u8; 768], m: &[u64; 512], r: Column) -> Column
-    requires { ⌜ LogTable (now t) × (now m ≡ multiples 16) ⌝ }
+// The repair of a column whose syndromes are s, over lent tables: of logarithms, and of the generator's multiples. The syndromes decide, before and after mending.
+pub fn correct_column_from(t: &[u8; 768], m: &[u64; 512], s: [u8; 16], r: Column) -> Column
+    requires { ⌜ LogTable (now t) × (now m ≡ multiples 16) × (s ≡ tabulate (syndrome (r .bytes)) 16) ⌝ }
     ensures { λ q. ⌜ (q .bytes ≡ nearest 16 8 (r .bytes)) × (q .outcome ≡ outcomeOf 16 8 (r .bytes)) ⌝ }
 {
     let bytes = r.bytes;
-    let x = division::remainder_of(m, &bytes, 16);
-    if division::is_zero(x) {
+    if crate::syndromes::all_zero(&s) {
         return Column {
             bytes,
             outcome: Outcome::Clean,
         };
     }
-    let s = column_syndromes(t, x);
-    let l = column_locator(t, s);
-    let p = column_search(t, l);
+    let p = column_search(t, s);
     let near = column_mend(t, bytes, s, p);
-    let again = division::remainder_of(m, &near, 16);
-    if division::is_zero(again) {
+    let again = column_syndromes(t, m, near);
+    if crate::syndromes::all_zero(&again) {
         return Column {
             bytes: near,
             outcome: Outcome::Corrected,
@@ -94,6 +88,16 @@ pub fn correct_column_with(t: &[u8; 768], m: &[u64; 512], r: Column) -> Column
         bytes,
         outcome: Outcome::Uncorrectable,
     }
+}
+
+// The repair, over lent tables.
+pub fn correct_column_with(t: &[u8; 768], m: &[u64; 512], r: Column) -> Column
+    requires { ⌜ LogTable (now t) × (now m ≡ multiples 16) ⌝ }
+    ensures { λ q. ⌜ (q .bytes ≡ nearest 16 8 (r .bytes)) × (q .outcome ≡ outcomeOf 16 8 (r .bytes)) ⌝ }
+{
+    let bytes = r.bytes;
+    let s = column_syndromes(t, m, bytes);
+    correct_column_from(t, m, s, r)
 }
 
 // The repair. The outcome that comes in does not matter.

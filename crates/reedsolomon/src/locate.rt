@@ -100,7 +100,7 @@ fn clear_equations(t: &[u8; 768], s: &[u8], pivots: &mut [u8], v: &mut [u8]) -> 
 }
 
 // A locator for the syndromes s, in v. `pivots` is scratch, filled with zeros.
-pub fn locate(t: &[u8; 768], s: &[u8], pivots: &mut [u8], v: &mut [u8])
+pub(crate) fn locate(t: &[u8; 768], s: &[u8], pivots: &mut [u8], v: &mut [u8])
     requires { ⌜ (LogTable (now t)) × (0 < length (now v)) × (now pivots ≡ replicate ((length (now v) - 1) * length (now v)) 0) × (length (now v) + length (now v) ≤ length (now s) + 2) ⌝ }
     ensures { λ r. ⌜ Locator (at (now (s .entry))) (length (now (v .entry)) - 1) (now (v .exit)) ⌝ }
 {

@@ -1,6 +1,6 @@
 // The values of the errors, and the word without them.
 ghost use mathlib.Core.Path.{_≡_};
-ghost use Prim.Native.Nat.{ℕ, _<_, _≤_};
+ghost use Prim.Native.Nat.{ℕ, _<_};
 ghost use lib.ListN.{length, getD};
 ghost use Rattle.lists.specs.Fill.{tabulate};
 ghost use Rattle.field.specs.Tables.{LogTable};
@@ -58,7 +58,7 @@ fn error_value(t: &[u8; 768], s: &[u8], ks: &[u8], j: usize, rest: &mut [u8]) ->
 }
 
 // The word w without the errors at the places ks. `rest` is scratch.
-pub fn mend(t: &[u8; 768], s: &[u8], ks: &[u8], rest: &mut [u8], w: &mut [u8])
+pub(crate) fn mend(t: &[u8; 768], s: &[u8], ks: &[u8], rest: &mut [u8], w: &mut [u8])
     requires { ⌜ (LogTable (now t)) × (0 < length (now s)) × (length (now s) ≡ length (now rest)) × ((j : ℕ) → j < length (now ks) → getD (now ks) j 0 < length (now w)) ⌝ }
     ensures { λ r. ⌜ now (w .exit) ≡ mended (at (now (s .entry))) (now (ks .entry)) (now (w .entry)) ⌝ }
 {

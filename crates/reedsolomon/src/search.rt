@@ -20,7 +20,7 @@ fn poly_value(t: &[u8; 768], c: &[u8], x: u8) -> u8
 }
 
 // The places below n whose locators are roots of c, highest first; how many there are.
-pub fn search(t: &[u8; 768], c: &[u8], n: u8, out: &mut [u8]) -> usize
+pub(crate) fn search(t: &[u8; 768], c: &[u8], n: u8, out: &mut [u8]) -> usize
     requires { ⌜ (LogTable (now t)) × (length (now c) ≡ length (now out) + 1) × NonZero (now c) ⌝ }
     ensures { λ r. ⌜ (r ≤ length (now (out .entry))) × (take r (now (out .exit)) ≡ rootPlaces (now (c .entry)) n) ⌝ }
 {

@@ -11,15 +11,25 @@ use lib.ListN.{length}
 use Rattle.dataframe.specs.Checks.{numberOf}
 use Rattle.eccblock.specs.Parts.{rowOf, columnOf, frameOf, mainOfBlock}
 use Rattle.repairer.specs.Repair.{rowsRepaired, columnsRepaired, repaired, tallyOf, talliesOf}
-use Rattle.repairer.specs.Answer.{frameFault, judged, lengthsFit, repairAnswer, handsOut, blockAfter, mainAfter, repairNumber}
+use Rattle.repairer.specs.Answer.{frameFault, judged, lengthsFit, repairAnswer, handsOut, blockAfter, mainAfter, repairNumber, repairRefusal, repairFrame, refusedFrame}
 use Rattle.repairer.specs.declared.Tally.{Tally}
 use Rattle.repairer.specs.declared.Tallies.{Tallies}
 use Rattle.repairer.specs.declared.Repaired.{Repaired}
 use Rattle.repairer.specs.declared.Repaired.the-variants.{Block, FrameRefused, LengthRefused}
+use Rattle.repairer.proofs.Numbers.{repair-number, repair-frame}
 
 -- what the repairer's contract asks of an answer and of the two buffers
 abbrev pub Meets : List ℕ → List ℕ → Repaired → List ℕ → List ℕ → Type 0
-Meets xs old r ys new = (r ≡ repairAnswer xs (length old)) × (ys ≡ blockAfter xs (length old)) × (new ≡ mainAfter xs old)
+Meets xs old r ys new =
+    (r ≡ repairAnswer xs (length old))
+    × ((repairNumber r ≡ repairRefusal xs (length old))
+    × ((repairFrame r ≡ refusedFrame xs (length old)) × ((ys ≡ blockAfter xs (length old)) × (new ≡ mainAfter xs old))))
+
+-- number and frame follow from the answer
+meets :
+    (xs old : List ℕ) (r : Repaired) (ys new : List ℕ) → r ≡ repairAnswer xs (length old) → ys ≡ blockAfter xs (length old) → new ≡ mainAfter xs old
+    → Meets xs old r ys new
+meets xs old r ys new a b m = (a, (ap repairNumber a ∙ repair-number xs (length old), (ap repairFrame a ∙ repair-frame xs (length old), (b, m))))
 
 -- the judgement over the repaired block
 abbrev verdict : List ℕ → Repaired
@@ -66,7 +76,7 @@ held LengthRefused m = refl
 module _ (xs old : List ℕ) where
   misfit : lengthsFit xs (length old) ≡ false → Meets xs old LengthRefused xs old
   unfolding repairAnswer blockAfter mainAfter
-  misfit e = (rw e, rw e, rw e)
+  misfit e = meets xs old LengthRefused xs old (rw e) (rw e) (rw e)
 
   pub block-misfits : length xs ≢ 37856 → Meets xs old LengthRefused xs old
   unfolding lengthsFit
@@ -95,10 +105,10 @@ module _ (xs old : List ℕ) where
 
       pub frame-refused : repairNumber r ≢ 0 → Meets xs old r ys old
       unfolding mainAfter
-      frame-refused n = (answer, v .block ∙ block-left, rw (ap handsOut (sym answer) ∙ held r n))
+      frame-refused n = meets xs old r ys old answer (v .block ∙ block-left) (rw (ap handsOut (sym answer) ∙ held r n))
 
       pub handed-out : (new : List ℕ) → repairNumber r ≡ 0 → new ≡ mainOfBlock ys → Meets xs old r ys new
       unfolding mainAfter
       handed-out new z m =
           let o = passed (repaired xs) 0 16 (numberOf (frameOf (repaired xs) 0)) (talliesOf xs) (ap repairNumber (sym (v .answer)) ∙ z) in
-          (answer, v .block ∙ block-left, m ∙ ap mainOfBlock (v .block) ∙ rw (ap handsOut (sym answered) ∙ o))
+          meets xs old r ys new answer (v .block ∙ block-left) (m ∙ ap mainOfBlock (v .block) ∙ rw (ap handsOut (sym answered) ∙ o))

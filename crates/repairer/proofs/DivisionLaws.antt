@@ -1,40 +1,40 @@
--- The columns divided by the generator side by side, row after row in the order before the rows were moved, and a column of which nothing is left.
+-- The columns divided by the generator side by side, row after row in the order before the rows were moved, and the syndromes of a column from what is left of it.
 -- Assumes nothing.
-use mathlib.Core.Path.{_≡_, refl, sym, ap, _∙_, subst}
-use mathlib.Core.Bool.{true}
+use mathlib.Core.Path.{_≡_, sym, ap, ap₂, _∙_}
 use mathlib.Core.List.{List}
-use Prim.Native.Nat.{ℕ, _+_, _-_, _*_, _<_, _≤_}
+use Prim.Native.Nat.{ℕ, _+_, _-_, _*_, _<_}
 use native.Mathlib.Omega.{arith}
 use lib.ListN.{length, getD, take, drop, replicate, length-drop}
 use lib.Seq.{getD-take, getD-drop, length-take-le}
 use Rattle.lists.specs.Bytes.{Bytes}
+use Rattle.lists.specs.Fill.{tabulate}
 use Rattle.lists.proofs.Bytes.{tabulate-bytes}
 use Rattle.lists.proofs.Fill.{length-tabulate, getD-tabulate}
-use Rattle.lists.proofs.Test.{truth}
-use Rattle.codes.specs.Parity.{shiftIn, remainder, generatorTail, parity}
-use Rattle.codes.specs.Word.{isCode}
-use Rattle.codes.proofs.Words.{test-of-code}
+use Rattle.field.specs.Field.{add}
+use Rattle.codes.specs.Parity.{parity}
+use Rattle.codes.specs.Word.{syndrome}
 use Rattle.codes.proofs.Division.{sixteen-roots}
-use Rattle.multiples.specs.Multiples.{multiples}
-use Rattle.division.specs.Packed.{Beside}
-use Rattle.division.proofs.Division.{beside-zeros, beside-same, beside-more, beside-all}
-use Rattle.division.proofs.Words.{divided-code}
+use Rattle.multiples.specs.Multiples.{number, high, low}
+use Rattle.multiples.proofs.Numbers.{number-same}
+use Rattle.division.specs.Packed.{beside, remainderOf}
+use Rattle.division.specs.Unpacked.{unpacked}
+use Rattle.division.proofs.Division.{shifted, beside-high, beside-low, beside-length, beside-none, beside-more}
+use Rattle.division.proofs.Words.{left-high, left-low}
+use Rattle.reedsolomon.proofs.Left.{syndromes-left}
 use Rattle.eccblock.specs.Block.{recordingRow}
 use Rattle.eccblock.specs.Parts.{columnOf}
 
 -- the first i bytes of each column have passed
 unfoldable pub Divided : List ℕ → ℕ → List ℕ → Type 0
-Divided xs i regs = Beside 16 (λ j. remainder (generatorTail 16) (replicate 16 0) (take i (columnOf xs j))) 172 regs
+Divided xs i regs = regs ≡ beside (λ j. parity 16 (take i (columnOf xs j))) 172
 
 pub divided-none : (xs : List ℕ) → Divided xs 0 (replicate 344 0)
-unfolding Divided remainder
-divided-none xs =
-    beside-same 16 172 (λ j. replicate 16 0) (λ j. remainder (generatorTail 16) (replicate 16 0) (take 0 (columnOf xs j))) (replicate 344 0) (λ j l. refl)
-    (beside-zeros 16 172)
+unfolding Divided
+divided-none xs = beside-none 172 (columnOf xs)
 
 pub divided-size : (xs regs : List ℕ) (i : ℕ) → Divided xs i regs → length regs ≡ 344
 unfolding Divided
-divided-size xs regs i d = d .size
+divided-size xs regs i d = ap length d ∙ beside-length (λ j. parity 16 (take i (columnOf xs j))) 172
 
 pub column-length : (xs : List ℕ) (j : ℕ) → length (columnOf xs j) ≡ 208
 unfolding columnOf
@@ -49,7 +49,7 @@ unfolding columnOf
 column-bytes xs h j = tabulate-bytes (λ i. getD xs (recordingRow i * 182 + j) 0) 0 208 (λ i. h (recordingRow i * 182 + j))
 
 -- row i, which stands in row r, has passed
-module _ (m xs regs new : List ℕ) (i r : ℕ) (e : length xs ≡ 37856) (hi : i < 208) (hr : r ≡ recordingRow i) (small : r < 208) where
+module _ (xs regs new : List ℕ) (i r : ℕ) (e : length xs ≡ 37856) (hi : i < 208) (hr : r ≡ recordingRow i) (small : r < 208) where
   abbrev pub row : List ℕ
   row = take (r * 182 + 172 - r * 182) (drop (r * 182) xs)
 
@@ -63,24 +63,43 @@ module _ (m xs regs new : List ℕ) (i r : ℕ) (e : length xs ≡ 37856) (hi : 
       getD-take (r * 182 + 172 - r * 182) (drop (r * 182) xs) j 0 (omega arith) ∙ getD-drop (r * 182) xs j 0
       ∙ ap (λ (k : ℕ). getD xs (k * 182 + j) 0) hr ∙ sym (column-byte xs j i hi)
 
-  pub divided-more : m ≡ multiples 16
-      → ((p : ℕ) (R : ℕ → List ℕ) → p ≤ 16 → m ≡ multiples p → Beside p R (length row) regs → Beside p (λ j. shiftIn (generatorTail p) (R j) (getD row j 0)) (length row) new)
-      → Divided xs i regs → Divided xs (i + 1) new
+  pub divided-more : Divided xs i regs → new ≡ beside (shifted row regs) (length row) → Divided xs (i + 1) new
   unfolding Divided
-  divided-more hm shift d =
-      let R : ℕ → List ℕ = λ j. remainder (generatorTail 16) (replicate 16 0) (take i (columnOf xs j)) in
-      let s = shift 16 R (omega arith) hm (subst (λ (n : ℕ). Beside 16 R n regs) (sym row-length) d) in
-      beside-more 16 172 (columnOf xs) i row new (λ j l. omega (arith, column-length xs j)) row-byte
-      (subst (λ (n : ℕ). Beside 16 (λ j. shiftIn (generatorTail 16) (R j) (getD row j 0)) n new) row-length s)
+  divided-more d s =
+      beside-more 172 (columnOf xs) i row regs new row-length (λ j l. omega (arith, column-length xs j)) row-byte d s
 
-pub divided-all : (xs regs : List ℕ) → Divided xs 208 regs → Beside 16 (λ j. parity 16 (columnOf xs j)) 172 regs
-unfolding Divided
-divided-all xs regs d = beside-all 16 172 (columnOf xs) 208 regs (λ j l. omega (arith, column-length xs j)) d
+-- ---- the syndromes of column j, from its first 192 bytes and its last sixteen
 
--- a column of which nothing is left is a code column
-pub divided-clean : (xs regs : List ℕ) → ((k : ℕ) → getD xs k 0 < 256) → Beside 16 (λ j. parity 16 (columnOf xs j)) 172 regs → (j : ℕ) → j < 172
-    → getD regs (2 * j) 0 ≡ 0 → getD regs (2 * j + 1) 0 ≡ 0 → isCode 16 (columnOf xs j) ≡ true
-divided-clean xs regs h b j l e f =
-    let q = b .each j l in
-    truth (isCode 16 (columnOf xs j))
-    (test-of-code 16 (columnOf xs j) (divided-code 16 sixteen-roots (columnOf xs j) (column-bytes xs h j) (omega arith) (sym (q .first) ∙ e) (sym (q .second) ∙ f)))
+-- the register of column j, which is in ys what it is in xs
+pub column-register : (xs ys regs : List ℕ) (j : ℕ) → j < 172 → regs ≡ beside (λ i. parity 16 (take 192 (columnOf xs i))) 172 → columnOf ys j ≡ columnOf xs j
+    → (getD regs (2 * j) 0 ≡ high (parity 16 (take 192 (columnOf ys j)))) × (getD regs (2 * j + 1) 0 ≡ low (parity 16 (take 192 (columnOf ys j))))
+column-register xs ys regs j l d e =
+    let R : ℕ → List ℕ = λ i. parity 16 (take 192 (columnOf xs i)) in (
+      ap (λ (r : List ℕ). getD r (2 * j) 0) d ∙ beside-high R 172 j l ∙ ap (λ (w : List ℕ). high (parity 16 (take 192 w))) (sym e),
+      ap (λ (r : List ℕ). getD r (2 * j + 1) 0) d ∙ beside-low R 172 j l ∙ ap (λ (w : List ℕ). low (parity 16 (take 192 w))) (sym e),
+    )
+
+module _ (xs : List ℕ) (j : ℕ) (bytes : Bytes (columnOf xs j)) where
+  abbrev w : List ℕ
+  w = columnOf xs j
+
+  -- eight of the last sixteen bytes, from byte 192 + k on
+  last : (k : ℕ) → number (λ i. getD w i 0) (192 + k) 8 ≡ number (λ i. getD (drop 192 w) i 0) k 8
+  last k = number-same (λ i. getD w i 0) (λ i. getD (drop 192 w) i 0) (192 + k) k 8 (λ i l. ap (λ (n : ℕ). getD w n 0) (omega arith) ∙ sym (getD-drop 192 w (k + i) 0))
+
+  size : length w - 16 ≡ 192
+  size = omega (arith, column-length xs j)
+
+  pub column-high : (h x : ℕ) → h ≡ high (parity 16 (take 192 w)) → x ≡ number (λ i. getD w i 0) 192 8 → add h x ≡ high (remainderOf 16 w)
+  unfolding high
+  column-high h x eh ex =
+      ap₂ add eh (ex ∙ last 0) ∙ sym (left-high 16 w bytes (omega (arith, column-length xs j)) ∙ ap (λ (n : ℕ). add (high (parity 16 (take n w))) (high (drop n w))) size)
+
+  pub column-low : (l x : ℕ) → l ≡ low (parity 16 (take 192 w)) → x ≡ number (λ i. getD w i 0) 200 8 → add l x ≡ low (remainderOf 16 w)
+  unfolding low
+  column-low l x el ex =
+      ap₂ add el (ex ∙ last 8) ∙ sym (left-low 16 w bytes (omega (arith, column-length xs j)) ∙ ap (λ (n : ℕ). add (low (parity 16 (take n w))) (low (drop n w))) size)
+
+  pub column-syndromes : (s : List ℕ) (h l : ℕ) → h ≡ high (remainderOf 16 w) → l ≡ low (remainderOf 16 w)
+      → s ≡ tabulate (syndrome (take 16 (unpacked h l))) 16 → s ≡ tabulate (syndrome w) 16
+  column-syndromes s h l eh el e = e ∙ syndromes-left 16 sixteen-roots (omega arith) w bytes (omega (arith, column-length xs j)) h l eh el

@@ -5,4 +5,5 @@ pub mod Counting
 pub mod RowLaws
 pub mod ColumnLaws
 pub mod FrameLaws
+pub mod Numbers
 pub mod Answers

@@ -3,7 +3,7 @@
 use mathlib.Core.Bool.{Bool, true, false, cond, _&&_}
 use mathlib.Core.List.{List}
 use Prim.Native.Nat.{ℕ, zero, suc}
-use lib.Dec.{eqb}
+use lib.Dec.{eqb, ltb}
 use lib.ListN.{length}
 use Rattle.dataframe.specs.Checks.{infoOf, numberOf, frameRefusal}
 use Rattle.eccblock.specs.Parts.{frameOf, mainOfBlock}
@@ -42,8 +42,33 @@ blockAfter xs n = cond (lengthsFit xs n) (repaired xs) xs
 unfoldable pub mainAfter : List ℕ → List ℕ → List ℕ
 mainAfter xs old = cond (handsOut (repairAnswer xs (length old))) (mainOfBlock (repaired xs)) old
 
+-- ---- document 01's numbers
+
+-- the frames are 0 to 15, and 16 says that no frame is refused
+abbrev pub noFrame : ℕ
+noFrame = 16
+
+-- the first of n frames from frame k on that fails, in ascending order, or frame k + n, the one after them, where none does
+unfoldable pub firstFailing : List ℕ → ℕ → ℕ → ℕ
+firstFailing ys k zero = k
+firstFailing ys k (suc n) = cond (eqb (frameFault ys k) 0) (firstFailing ys (suc k) n) k
+
+-- the frame that a call is refused for: the first that fails of the block after both repairs. None where all pass, and none where a length is wrong
+unfoldable pub refusedFrame : List ℕ → ℕ → ℕ
+refusedFrame xs n = cond (lengthsFit xs n) (firstFailing (repaired xs) 0 16) noFrame
+
+-- the number that a call is refused with: 1 where a length is wrong; else that of the frame refused, the lowest of 4, 5 and 6 that applies in it; 0 where all pass
+unfoldable pub repairRefusal : List ℕ → ℕ → ℕ
+repairRefusal xs n = cond (lengthsFit xs n) (cond (ltb (refusedFrame xs n) noFrame) (frameFault (repaired xs) (refusedFrame xs n)) 0) 1
+
 -- document 01's number for each answer, 0 where nothing is refused
 abbrev pub repairNumber : Repaired → ℕ
 repairNumber (Block first tallies) = 0
 repairNumber (FrameRefused number frame) = number
 repairNumber LengthRefused = 1
+
+-- the frame that each answer carries
+abbrev pub repairFrame : Repaired → ℕ
+repairFrame (Block first tallies) = noFrame
+repairFrame (FrameRefused number frame) = frame
+repairFrame LengthRefused = noFrame

@@ -12,7 +12,7 @@ use crate::Repaired;
 use crate::Tallies;
 
 // The frames in ascending order, up to the first that fails. Frame 0's number and Information byte are what check 5 goes by.
-pub fn judge_frames(t: &[u8; 768], b: &[u8], tallies: Tallies) -> Repaired
+pub(crate) fn judge_frames(t: &[u8; 768], b: &[u8], tallies: Tallies) -> Repaired
     requires { ⌜ LogTable (now t) × (length (now b) ≡ 37856) ⌝ }
     ensures { λ r. ⌜ r ≡ judged (now (b .entry)) 0 16 (Repaired.Block (numberOf (frameOf (now (b .entry)) 0)) tallies) ⌝ }
 {
@@ -46,7 +46,7 @@ fn store_main(f: &[u8; 2064], k: usize, main: &mut [u8])
 }
 
 // The main data of all frames, unscrambled.
-pub fn hand_out(b: &[u8], main: &mut [u8])
+pub(crate) fn hand_out(b: &[u8], main: &mut [u8])
     requires { ⌜ (length (now b) ≡ 37856) × (length (now main) ≡ 32768) ⌝ }
     ensures { λ r. ⌜ now (main .exit) ≡ mainOfBlock (now (b .entry)) ⌝ }
 {

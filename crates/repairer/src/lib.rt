@@ -2,7 +2,7 @@
 ghost use mathlib.Core.Path.{_≡_};
 ghost use Prim.Native.Nat.{_<_};
 ghost use lib.ListN.{length};
-ghost use Rattle.repairer.specs.Answer.{repairAnswer, blockAfter, mainAfter, repairNumber};
+ghost use Rattle.repairer.specs.Answer.{repairAnswer, blockAfter, mainAfter, repairNumber, repairRefusal, repairFrame, refusedFrame};
 ghost use Rattle.repairer.specs.Steps.{counted};
 use codes::Outcome;
 
@@ -21,7 +21,7 @@ pub struct Tallies {
     pub columns: Tally,
 }
 
-// What the block repairer answers. Document 01's number of each is `repairNumber`.
+// What the block repairer answers. Document 01's number of each is `repairNumber`, and the frame it carries `repairFrame`.
 pub enum Repaired {
     // All frames pass: the main data are handed out, with the first number.
     Block { first: u32, tallies: Tallies },
@@ -65,7 +65,11 @@ pub fn repair_number(r: Repaired) -> u8
 
 // The block repairer. The tables are made once a block and lent from there on. The main data buffer is written only when every frame has passed.
 pub fn repair_block(block: &mut [u8], main: &mut [u8]) -> Repaired
-    ensures { λ r. ⌜ (r ≡ repairAnswer (now (block .entry)) (length (now (main .entry)))) × (now (block .exit) ≡ blockAfter (now (block .entry)) (length (now (main .entry)))) × (now (main .exit) ≡ mainAfter (now (block .entry)) (now (main .entry))) ⌝ }
+    ensures { λ r. ⌜ r ≡ repairAnswer (now (block .entry)) (length (now (main .entry))) ⌝ }
+    ensures { λ r. ⌜ repairNumber r ≡ repairRefusal (now (block .entry)) (length (now (main .entry))) ⌝ }
+    ensures { λ r. ⌜ repairFrame r ≡ refusedFrame (now (block .entry)) (length (now (main .entry))) ⌝ }
+    ensures { λ r. ⌜ now (block .exit) ≡ blockAfter (now (block .entry)) (length (now (main .entry))) ⌝ }
+    ensures { λ r. ⌜ now (main .exit) ≡ mainAfter (now (block .entry)) (now (main .entry)) ⌝ }
 {
     if block.len() != 37856 {
         return Repaired::LengthRefused;

@@ -61,7 +61,7 @@ fn repair_row(t: &[u8; 768], m: &[u64; 512], q: usize, b: &mut [u8]) -> Outcome
     outcome
 }
 
-pub fn repair_rows(t: &[u8; 768], m: &[u64; 512], b: &mut [u8]) -> Tally
+pub(crate) fn repair_rows(t: &[u8; 768], m: &[u64; 512], b: &mut [u8]) -> Tally
     requires { ⌜ LogTable (now t) × (now m ≡ multiples 10) × (length (now b) ≡ 37856) ⌝ }
     ensures { λ r. ⌜ (r ≡ tallyOf 10 5 (rowOf (now (b .entry))) 208) × (now (b .exit) ≡ rowsRepaired (now (b .entry))) ⌝ }
 {

@@ -1,6 +1,6 @@
 -- The whole-block reader's answers, case by case.
 -- Assumes nothing.
-use mathlib.Core.Path.{_≡_, refl, sym, ap, ap₂, _∙_}
+use mathlib.Core.Path.{_≡_, sym, ap, ap₂, _∙_}
 use mathlib.Core.Bool.{Bool, true, false, cond, _&&_, and-false}
 use mathlib.Core.List.{List}
 use mathlib.Core.Logic.{_≢_}
@@ -12,15 +12,31 @@ use Rattle.channel.specs.Block.{readBlock}
 use Rattle.reader.specs.Sector.{unknownTally, syncTally}
 use Rattle.repairer.specs.Answer.{repairAnswer, blockAfter, mainAfter}
 use Rattle.repairer.specs.declared.Repaired.{Repaired}
-use Rattle.roundtrip.specs.BlockReader.{sectorSum, withSums, blockFits, blockReadAnswer, blockReadBlock, blockReadMain}
+use Rattle.roundtrip.specs.BlockReader.{sectorSum, withSums, blockFits, blockReadAnswer, blockReadBlock, blockReadMain, blockReadNumber, blockReadRefusal, blockReadFrame, blockReadRefusedFrame}
 use Rattle.roundtrip.specs.declared.BlockRead.{BlockRead}
 use Rattle.roundtrip.specs.declared.BlockRead.the-variants.{LengthRefused}
+use Rattle.roundtrip.proofs.Numbers.{block-read-number, block-read-frame}
 
 -- what a call with the answer r leaves in the two buffers
 pub record Left (xs block main : List ℕ) (r : BlockRead) (b m : List ℕ) : Type 0 where
   pub answer : r ≡ blockReadAnswer xs (length block) (length main)
   pub block-is : b ≡ blockReadBlock xs block (length main)
   pub main-is : m ≡ blockReadMain xs (length block) main
+
+-- what the contract asks, clause by clause: number and frame follow from the answer
+pub clauses :
+    (xs block main : List ℕ) (r : BlockRead) (b m : List ℕ) → Left xs block main r b m
+    → (r ≡ blockReadAnswer xs (length block) (length main))
+    × ((blockReadNumber r ≡ blockReadRefusal xs (length block) (length main))
+    × ((blockReadFrame r ≡ blockReadRefusedFrame xs (length block) (length main))
+    × ((b ≡ blockReadBlock xs block (length main)) × (m ≡ blockReadMain xs (length block) main))))
+clauses xs block main r b m h = (
+  h .answer,
+  (
+    ap blockReadNumber (h .answer) ∙ block-read-number xs (length block) (length main),
+    (ap blockReadFrame (h .answer) ∙ block-read-frame xs (length block) (length main), (h .block-is, h .main-is)),
+  ),
+)
 
 module _ (xs block main : List ℕ) where
   refused : blockFits xs (length block) (length main) ≡ false → Left xs block main LengthRefused block main

@@ -1,23 +1,21 @@
 -- The chain of demand 3: a block buffer of which at most 8 rows differ from a made block in more than 5 bytes is repaired to the made frames, so that the
 -- repairer hands out the main data.
 -- Assumes nothing.
-use mathlib.Core.Path.{_≡_, refl, sym, ap, ap₂, subst, _∙_}
+use mathlib.Core.Path.{_≡_, refl, sym, ap, ap₂, subst, _∙_, _≡⟨_⟩_, _∎}
 use mathlib.Core.Bool.{Bool, true, false, cond}
 use mathlib.Core.List.{List}
 use Prim.Native.Nat.{ℕ, zero, suc, _+_, _*_, _/_, _%_, _<_, _≤_}
 use native.Mathlib.Omega.{arith}
 use borrow.Author.Tests.{ltb-false, lt-ltb, eq-eqb}
-use lib.Dec.{eqb, ltb}
-use lib.ListN.{length, getD, take, drop, length-drop}
+use lib.Dec.{ltb}
+use lib.ListN.{length, getD, drop, length-drop}
 use lib.Seq.{ext-getD, getD-take, getD-drop, length-take-le}
 use Rattle.lists.specs.Bytes.{Bytes}
 use Rattle.lists.specs.Count.{countFrom, distance}
-use Rattle.lists.specs.Fill.{tabulate}
 use Rattle.lists.proofs.Bytes.{getD-byte, take-bytes, drop-bytes, tabulate-bytes}
-use Rattle.lists.proofs.Fill.{length-tabulate, getD-tabulate}
+use Rattle.lists.proofs.Fill.{getD-tabulate}
 use Rattle.codes.specs.Nearest.{nearest}
-use Rattle.codes.proofs.Words.{IsCode}
-use Rattle.codes.proofs.Nearest.{Near, nearest-near, nearest-bytes}
+use Rattle.codes.proofs.Nearest.{nearest-near, nearest-bytes}
 use Rattle.dataframe.specs.Checks.{infoOf, numberOf, frameRefusal}
 use Rattle.eccblock.specs.Block.{frame, codeColumn, codeRow, recordingRow, originalRow, block}
 use Rattle.eccblock.specs.Parts.{rowOf, columnOf, frameOf, mainOfBlock}
@@ -83,11 +81,12 @@ module _ (main : List ℕ) (first info : ℕ) (ok : Accepted main first info) (x
   -- a column then differs from the made one in far rows only
   column-alike : (j i : ℕ) → j < 182 → i < 208 → far (recordingRow i) ≡ false → getD (columnOf (rowsRepaired xs) j) i 0 ≡ getD (columnOf made j) i 0
   column-alike j i hj hi f =
-      column-of-at (rowsRepaired xs) j i hi
-      ∙ rows-at (recordingRow i) j (recording-lt i hi) hj
-      ∙ ap (λ (r : List ℕ). getD r j 0) (row-back (recordingRow i) (recording-lt i hi) f)
-      ∙ getD-take 182 (drop (recordingRow i * 182) made) j 0 hj ∙ getD-drop (recordingRow i * 182) made j 0
-      ∙ sym (column-of-at made j i hi)
+      let q = recordingRow i in
+      getD (columnOf (rowsRepaired xs) j) i 0 ≡⟨ column-of-at (rowsRepaired xs) j i hi ⟩ getD (rowsRepaired xs) (q * 182 + j) 0
+      ≡⟨ rows-at q j (recording-lt i hi) hj ⟩ getD (nearest 10 5 (rowOf xs q)) j 0
+      ≡⟨ ap (λ (r : List ℕ). getD r j 0) (row-back q (recording-lt i hi) f) ⟩ getD (rowOf made q) j 0
+      ≡⟨ getD-take 182 (drop (q * 182) made) j 0 hj ∙ getD-drop (q * 182) made j 0 ⟩ getD made (q * 182 + j) 0
+      ≡⟨ sym (column-of-at made j i hi) ⟩ getD (columnOf made j) i 0 ∎
 
   column-distance : (j : ℕ) → j < 182 → distance (columnOf (rowsRepaired xs) j) (columnOf made j) ≤ farRows xs made
   unfolding farRows
@@ -124,12 +123,12 @@ module _ (main : List ℕ) (first info : ℕ) (ok : Accepted main first info) (x
         let a : (q * 182 + j) / 182 ≡ q = omega arith in
         let b : (q * 182 + j) % 182 ≡ j = omega arith in
         let ys : List ℕ = rowsRepaired xs in
-        getD-tabulate (λ p. cond (ltb (p % 182) 172) (getD (nearest 16 8 (columnOf ys (p % 182))) (originalRow (p / 182)) 0) (getD ys p 0)) 37856 (q * 182 + j) (omega arith)
-        ∙ ap₂ (λ (x y : ℕ). cond (ltb y 172) (getD (nearest 16 8 (columnOf ys y)) (originalRow x) 0) (getD ys (q * 182 + j) 0)) a b
-        ∙ ap (λ (t : Bool). cond t (getD (nearest 16 8 (columnOf ys j)) (originalRow q) 0) (getD ys (q * 182 + j) 0)) (lt-ltb j 172 l)
-        ∙ ap (λ (c : List ℕ). getD c (originalRow q) 0) (column-back j l ∙ sym (block-column main first info ok j l))
-        ∙ column-of-at made j (originalRow q) (recording-original q h .0)
-        ∙ ap (λ (x : ℕ). getD made (x * 182 + j) 0) (recording-original q h .1)
+        let byte : ℕ → ℕ → ℕ → ℕ = λ p x y. cond (ltb y 172) (getD (nearest 16 8 (columnOf ys y)) (originalRow x) 0) (getD ys p 0) in
+        getD (repaired xs) (q * 182 + j) 0 ≡⟨ getD-tabulate (λ p. byte p (p / 182) (p % 182)) 37856 (q * 182 + j) (omega arith) ∙ ap₂ (byte (q * 182 + j)) a b ⟩ byte (q * 182 + j) q j
+        ≡⟨ ap (λ (t : Bool). cond t (getD (nearest 16 8 (columnOf ys j)) (originalRow q) 0) (getD ys (q * 182 + j) 0)) (lt-ltb j 172 l) ⟩ getD (nearest 16 8 (columnOf ys j)) (originalRow q) 0
+        ≡⟨ ap (λ (c : List ℕ). getD c (originalRow q) 0) (column-back j l ∙ sym (block-column main first info ok j l)) ⟩ getD (columnOf made j) (originalRow q) 0
+        ≡⟨ column-of-at made j (originalRow q) (recording-original q h .0) ⟩ getD made (recordingRow (originalRow q) * 182 + j) 0
+        ≡⟨ ap (λ (x : ℕ). getD made (x * 182 + j) 0) (recording-original q h .1) ⟩ getD made (q * 182 + j) 0 ∎
 
     frame-back : (k : ℕ) → k < 16 → frameOf (repaired xs) k ≡ frame main first info k
     frame-back k h =

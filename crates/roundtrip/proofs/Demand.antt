@@ -1,25 +1,28 @@
--- DEMAND 3 (the mission; document 01, 'Reading a word, and the repair'), one theorem from the maker's input to the reader's answer. For every block that the
--- maker accepts, every list of permitted choices, whoever makes them, and every stream that was read in its place: while at most 8 of the 208 rows hold more
--- than 5 touched bytes, the reader refuses nothing and hands out exactly the main data and the first number. Before any change the permitted stream has 2 to
--- 10 ZEROs between ONEs, apart from the 13 in each SYNC Code.
+-- DEMAND 3 (the mission; document 01, 'Reading a word, and the repair'), one theorem from the maker's input to the repairer's answer.
+--   runs   Before any change every permitted stream, whatever bytes it carries, has 2 to 10 ZEROs between ONEs, apart from the 13 in each SYNC Code.
+--   back   For every block that the maker accepts, every list of permitted choices, whoever makes them, and every stream that is read in place of theirs: while at
+--          most 8 of the 208 rows hold more than 5 touched bytes, the reader refuses nothing and hands out exactly the main data and the first number.
+-- 'The reader of demand 3 is sixteen calls of the sector reader and then one of the repairer.' The whole-block reader, which is one call, stands beside it.
 --
--- The definitions it is stated over are those that the contracts cite:
---   Accepted, block             eccblock/specs/Encode, Block    eccblock::encode_block
---   permittedChoices,           channel/specs/Block             the writer's choices are among them: streams/proofs, writer/proofs
---   permittedStream, heavyRows
---   readBlock                   channel/specs/Block             reader::read_sector, sixteen times
---   repairAnswer, mainAfter     repairer/specs/Answer           repairer::repair_block
---   blockReadAnswer,            roundtrip/specs/BlockReader     roundtrip::read_block
---   blockReadMain
---   blockRunFits, bitsBytes     channel/specs/Bits
+-- The definitions it is stated over, and the functions whose contracts cite them:
+--   Accepted, block                          eccblock/specs/Encode, Block    eccblock::encode_block
+--   permittedChoices, permittedStream        channel/specs/Block             the writer's are among them: block-written (writer/proofs/Calls)
+--   heavyRows (touched, changed)             channel/specs/Block             the damage, which no function knows
+--   bitsBytes, blockRunFits                  channel/specs/Bits              the runs, which no call of this theorem tests
+--   Lent, callAnswer, blockBuffer            reader/specs/Session            sixteen calls, by the two lines below
+--   sectorAnswer, sectorAfter, sectorNumber  reader/specs/Sector             reader::read_sector, sector_number
+--   repairAnswer, mainAfter, talliesOf       repairer/specs/Answer, Repair   repairer::repair_block
+--   blockReadAnswer, blockReadMain,          roundtrip/specs/BlockReader     roundtrip::read_block
+--   sectorSum (readBlock, unknownTally,
+--   syncTally)
 -- Assumes nothing.
-use mathlib.Core.Path.{_≡_, refl, sym, ap, ap₂, _∙_}
-use mathlib.Core.Bool.{Bool, true, cond}
+use mathlib.Core.Path.{_≡_}
+use mathlib.Core.Bool.{Bool}
 use mathlib.Core.List.{List, _∷_, _++_}
-use Prim.Native.Nat.{ℕ, _≤_}
+use Prim.Native.Nat.{ℕ, _<_, _≤_}
 use native.Mathlib.Omega.{arith}
 use borrow.Author.Tests.{eq-eqb}
-use lib.Dec.{T, eqb}
+use lib.Dec.{T}
 use lib.ListN.{length, replicate}
 use Rattle.lists.specs.Bytes.{Bytes}
 use Rattle.eccblock.specs.Block.{block}
@@ -29,51 +32,77 @@ use Rattle.channel.specs.Block.{permittedChoices, permittedStream, heavyRows, f
 use Rattle.channel.specs.Bits.{bitsBytes, blockRunFits}
 use Rattle.channel.proofs.Sectors.{far-heavy}
 use Rattle.channel.proofs.BlockRuns.{block-runs}
-use Rattle.reader.specs.Sector.{unknownTally, syncTally}
+use Rattle.reader.specs.Sector.{unknownTally, syncTally, sectorNumber}
+use Rattle.reader.specs.Session.{Lent, callAnswer, blockBuffer}
+use Rattle.reader.proofs.Calls.{call-number≡0, block-buffer≡read-block}
 use Rattle.repairer.specs.Repair.{talliesOf}
 use Rattle.repairer.specs.Answer.{repairAnswer, mainAfter}
-use Rattle.repairer.specs.declared.Repaired.{Repaired}
 use Rattle.repairer.specs.declared.Repaired.the-variants.{Block as RepairedBlock}
-use Rattle.roundtrip.specs.BlockReader.{sectorSum, withSums, blockFits, blockReadAnswer, blockReadMain}
-use Rattle.roundtrip.specs.declared.BlockRead.{BlockRead}
-use Rattle.roundtrip.specs.declared.BlockRead.the-variants.{Block, LengthRefused}
+use Rattle.roundtrip.specs.BlockReader.{sectorSum, blockFits, blockReadAnswer, blockReadMain}
+use Rattle.roundtrip.specs.declared.BlockRead.the-variants.{Block}
 use Rattle.roundtrip.proofs.ReadBytes.{read-block-length, read-block-bytes}
 use Rattle.roundtrip.proofs.Chain.{handed-out, main-back}
 
--- the sixteen sector readings of the stream xs, then the repair, give the main data and the first number back
+-- ---- what is claimed
+
+-- k ZEROs between the ONE at bit `length head` of a stream and its next ONE: 2 to 10, or the thirteen at their place in a SYNC Code
+abbrev pub RunsFit : List ℕ → Type 0
+RunsFit ys = (head tail : List ℕ) (k : ℕ) → bitsBytes ys ≡ head ++ 1 ∷ (replicate k 0 ++ 1 ∷ tail) → T (blockRunFits (length head) k)
+
+-- the stream xs by sixteen calls of the sector reader and then one of the repairer. Sector k's buffer held outs k before, and the main data buffer held old
+pub record ByCalls (main : List ℕ) (first : ℕ) (xs : List ℕ) (outs : ℕ → List ℕ) (old : List ℕ) : Type 0 where
+  -- no sector is refused,
+  pub sectors : (k : ℕ) → k < 16 → sectorNumber (callAnswer xs outs k) ≡ 0
+  -- the repairer gets the sixteen buffers, refuses nothing and hands out the first number
+  pub answer : repairAnswer (blockBuffer xs outs) (length old) ≡ RepairedBlock first (talliesOf (blockBuffer xs outs))
+  -- and the main data
+  pub main-data : mainAfter (blockBuffer xs outs) old ≡ main
+
+-- the main data and the first number are handed out of the stream xs
 pub record HandedOut (main : List ℕ) (first : ℕ) (xs : List ℕ) : Type 0 where
-  -- by the calls of the sector reader and one of the repairer, whatever its main data buffer held before
-  pub answer : repairAnswer (readBlock xs) 32768 ≡ RepairedBlock first (talliesOf (readBlock xs))
-  pub main-data : (old : List ℕ) → length old ≡ 32768 → mainAfter (readBlock xs) old ≡ main
+  -- by the calls, whatever their buffers of the stated lengths held before,
+  pub calls : (outs : ℕ → List ℕ) (old : List ℕ) → Lent outs → length old ≡ 32768 → ByCalls main first xs outs old
   -- and by the one call of the whole-block reader
   pub whole-answer : blockReadAnswer xs 37856 32768 ≡ Block first (talliesOf (readBlock xs)) (sectorSum unknownTally xs 0 16) (sectorSum syncTally xs 0 16)
   pub whole-main-data : (old : List ℕ) → length old ≡ 32768 → blockReadMain xs 37856 old ≡ main
 
-pub record Promise (main : List ℕ) (first info : ℕ) (cs : List Bool) : Type 0 where
-  -- k ZEROs between the ONE at bit `length head` and the next ONE: 2 to 10, or the thirteen at their place in a SYNC Code
-  pub runs : (head tail : List ℕ) (k : ℕ) → bitsBytes (permittedStream (block main first info) cs) ≡ head ++ 1 ∷ (replicate k 0 ++ 1 ∷ tail)
-      → T (blockRunFits (length head) k)
-  -- whatever stream of bytes is read in its place, while at most 8 rows are heavy
-  pub back : (xs : List ℕ) → length xs ≡ 77380 → Bytes xs → heavyRows (permittedStream (block main first info) cs) xs ≤ 8 → HandedOut main first xs
+pub record Demand3 : Type 0 where
+  -- any 37,856 bytes, laid by any permitted choices
+  pub runs : (bs : List ℕ) (cs : List Bool) → length bs ≡ 37856 → Bytes bs → T (permittedChoices bs cs)
+      → RunsFit (permittedStream bs cs)
+  -- any accepted block, laid by any permitted choices, and any bytes xs read in place of its stream, while at most 8 rows are heavy
+  pub back : (main : List ℕ) (first info : ℕ) → Accepted main first info → (cs : List Bool) → T (permittedChoices (block main first info) cs)
+      → (xs : List ℕ) → length xs ≡ 77380 → Bytes xs → heavyRows (permittedStream (block main first info) cs) xs ≤ 8
+      → HandedOut main first xs
 
-module _ (main : List ℕ) (first info : ℕ) (ok : Accepted main first info) (cs : List Bool) (p : T (permittedChoices (block main first info) cs)) where
-  hands-out : (xs : List ℕ) → length xs ≡ 77380 → Bytes xs → heavyRows (permittedStream (block main first info) cs) xs ≤ 8 → HandedOut main first xs
+-- ---- and proved
+
+module _ (main : List ℕ) (first info : ℕ) (ok : Accepted main first info) (xs : List ℕ) (whole : length xs ≡ 77380) where
+  abbrev made : List ℕ
+  made = block main first info
+
+  -- what was read is handed out while at most 8 of its rows are far from the made block's
+  pub near-handed-out : farRows (readBlock xs) made ≤ 8 → HandedOut main first xs
   unfolding blockReadAnswer blockReadMain blockFits
-  hands-out xs n hx few =
-      let near : farRows (readBlock xs) (block main first info) ≤ 8 =
-      omega (arith, far-heavy (block main first info) cs xs (block-length main first info ok) (block-bytes main first info ok) p hx, few) in
-      let a = handed-out main first info ok (readBlock xs) (read-block-length xs) (read-block-bytes xs) near in
-      let d = main-back main first info ok (readBlock xs) (read-block-length xs) (read-block-bytes xs) near in
+  near-handed-out near =
+      let answers = handed-out main first info ok (readBlock xs) (read-block-length xs) (read-block-bytes xs) near in
+      let gives = main-back main first info ok (readBlock xs) (read-block-length xs) (read-block-bytes xs) near in
       record {
-        answer = a;
-        main-data = d;
-        whole-answer = rw (eq-eqb (length xs) 77380 n, a);
-        whole-main-data = λ old l. rw (eq-eqb (length xs) 77380 n, eq-eqb (length old) 32768 l) (d old l);
+        calls = λ outs old lent l. record {
+          sectors = call-number≡0 xs outs whole lent;
+          answer = rw (block-buffer≡read-block xs outs whole lent, l) answers;
+          main-data = rw (block-buffer≡read-block xs outs whole lent) (gives old l);
+        };
+        whole-answer = rw (eq-eqb (length xs) 77380 whole, answers);
+        whole-main-data = λ old l. rw (eq-eqb (length xs) 77380 whole, eq-eqb (length old) 32768 l) (gives old l);
       }
 
-pub demand3 : (main : List ℕ) (first info : ℕ) → Accepted main first info → (cs : List Bool) → T (permittedChoices (block main first info) cs)
-    → Promise main first info cs
-demand3 main first info ok cs p = record {
-  runs = block-runs (block main first info) cs (block-length main first info ok) (block-bytes main first info ok) p;
-  back = hands-out main first info ok cs p;
+  -- no more rows are far than are heavy
+  few-far : (cs : List Bool) → T (permittedChoices made cs) → Bytes xs → heavyRows (permittedStream made cs) xs ≤ 8 → farRows (readBlock xs) made ≤ 8
+  few-far cs p hx few = omega (arith, far-heavy made cs xs (block-length main first info ok) (block-bytes main first info ok) p hx, few)
+
+pub demand3 : Demand3
+demand3 = record {
+  runs = block-runs;
+  back = λ main first info ok cs p xs whole hx few. near-handed-out main first info ok xs whole (few-far main first info ok xs whole cs p hx few);
 }

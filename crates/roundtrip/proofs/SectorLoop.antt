@@ -1,16 +1,14 @@
 -- The sixteen sectors as the loop reads them.
 -- Assumes nothing.
-use mathlib.Core.Path.{_≡_, refl, sym, ap, ap₂, _∙_, subst}
-use mathlib.Core.Bool.{Bool, true, false, cond}
+use mathlib.Core.Path.{_≡_, sym, ap, _∙_, subst}
+use mathlib.Core.Bool.{Bool, true, cond}
 use mathlib.Core.List.{List, _++_}
 use mathlib.Core.Logic.{dite}
-use Prim.Native.Nat.{ℕ, zero, suc, _+_, _-_, _*_, _%_, _<_, _≤_}
+use Prim.Native.Nat.{ℕ, suc, _+_, _-_, _*_, _%_, _<_, _≤_}
 use native.Mathlib.Decide.{ℕ-discrete}
 use native.Mathlib.Nat.{mod-eq-of-lt}
 use native.Mathlib.Numerals.{add-one}
 use native.Mathlib.Omega.{arith}
-use borrow.Author.Tests.{eq-eqb}
-use lib.Dec.{eqb}
 use lib.ListN.{length, getD, take, drop, length-append, length-take, length-drop, List·getD-append}
 use lib.Seq.{getD-take, getD-drop, drop-drop, getD-append-add, length-take-le}
 use Rattle.lists.proofs.Count.{count-le}
@@ -19,7 +17,7 @@ use Rattle.channel.specs.Block.{readAt, readSector, sectorPart, readBlock}
 use Rattle.channel.proofs.Sectors.{part-read, read-block}
 use Rattle.reader.specs.Sector.{unknownAt, lostSync, unknownTally, syncTally, sectorFits, sectorAnswer, sectorAfter}
 use Rattle.reader.specs.declared.SectorRead.{SectorRead}
-use Rattle.reader.specs.declared.SectorRead.the-variants.{Sector, LengthRefused}
+use Rattle.reader.proofs.Calls.{part-fits, part-answer≡tallies}
 use Rattle.roundtrip.specs.BlockReader.{sectorSum, addSector}
 use Rattle.roundtrip.specs.declared.Sums.{Sums}
 
@@ -63,18 +61,8 @@ small : (u n : ℕ) → u ≤ n → n < 65536 → u % 65536 ≡ u
 small u n l h = mod-eq-of-lt (omega arith)
 
 module _ (xs part : List ℕ) (k : ℕ) (hk : k < 16) (whole : length xs ≡ 77380) (e : part ≡ sectorPart xs k) where
-  part-length : length part ≡ 4838
-  part-length = ap length e ∙ length-take-le 4838 (drop (4836 * k) xs) (rw length-drop (omega arith))
-
   fits : (n : ℕ) → n ≡ 2366 → sectorFits part n ≡ true
-  unfolding sectorFits
-  fits n m = rw (eq-eqb (length part) 4838 part-length, eq-eqb n 2366 m)
-
-  -- a sector is not refused
-  pub sector-answer : (n : ℕ) → n ≡ 2366 → sectorAnswer part n ≡ Sector (unknownTally (sectorPart xs k)) (syncTally (sectorPart xs k))
-  unfolding sectorAnswer
-  sector-answer n m =
-      ap (λ (t : Bool). cond t (Sector (unknownTally part) (syncTally part)) LengthRefused) (fits n m) ∙ ap (λ (x : List ℕ). Sector (unknownTally x) (syncTally x)) e
+  fits n m = ap (λ (x : List ℕ). sectorFits x n) e ∙ part-fits xs whole k n hk m
 
   pub sector-bytes : (old : List ℕ) → length old ≡ 2366 → (i : ℕ) → i < 2366 → getD (sectorAfter part old) i 0 ≡ readAt xs (2366 * k + i)
   unfolding sectorAfter
@@ -90,7 +78,7 @@ module _ (xs part : List ℕ) (k : ℕ) (hk : k < 16) (whole : length xs ≡ 773
   pub sums-next : (s t : Sums) (n : ℕ) (r : SectorRead) → n ≡ 2366 → r ≡ sectorAnswer part n → t ≡ addSector s r
       → (t .unknown ≡ s .unknown + unknownTally (sectorPart xs k)) × (t .sync ≡ s .sync + syncTally (sectorPart xs k))
   sums-next s t n r m q a =
-      let z = a ∙ ap (addSector s) (q ∙ sector-answer n m) in (
+      let z = a ∙ ap (addSector s) (q ∙ ap (λ (x : List ℕ). sectorAnswer x n) e ∙ part-answer≡tallies xs whole k n hk m) in (
         ap (λ (x : Sums). x .unknown) z ∙ ap (λ (x : ℕ). s .unknown + x) (small (unknownTally (sectorPart xs k)) 2366 (unknown-le (sectorPart xs k)) (omega arith)),
         ap (λ (x : Sums). x .sync) z ∙ ap (λ (x : ℕ). s .sync + x) (small (syncTally (sectorPart xs k)) 26 (sync-le (sectorPart xs k)) (omega arith)),
       )

@@ -1,6 +1,6 @@
--- The undamaged stream of an accepted block, whatever the permitted choices, reads to its main data with all tallies 0.
+-- The undamaged stream of an accepted block, whatever the permitted choices, reads to its main data and its first number with all tallies 0.
 -- Assumes nothing.
-use mathlib.Core.Path.{_≡_, refl, sym, ap, ap₂, subst, _∙_}
+use mathlib.Core.Path.{_≡_, refl, sym, ap, ap₂, subst, _∙_, _≡⟨_⟩_, _∎}
 use mathlib.Core.Bool.{Bool, true, false, not, _&&_, _||_}
 use mathlib.Core.List.{List}
 use mathlib.Core.Logic.{_⊎_, inl, inr}
@@ -8,40 +8,40 @@ use Prim.Native.Nat.{ℕ, zero, suc, _+_, _*_, _-_, _/_, _%_, _<_, _≤_}
 use native.Mathlib.Omega.{arith}
 use borrow.Author.Tests.{eq-eqb, le-ltb}
 use lib.Dec.{T, eqb, ltb}
-use lib.ListN.{length, getD, take, drop}
+use lib.ListN.{length, getD, drop}
 use lib.Seq.{ext-getD, getD-take, getD-drop}
 use Rattle.lists.specs.Bytes.{Bytes}
-use Rattle.lists.specs.Count.{bit, countFrom, distance}
+use Rattle.lists.specs.Count.{distance}
 use Rattle.lists.specs.Fill.{tabulate}
 use Rattle.lists.proofs.Count.{count-none, distance-self}
 use Rattle.lists.proofs.Fill.{length-tabulate, getD-tabulate}
 use Rattle.lists.proofs.Test.{truth-of}
 use Rattle.codes.specs.Word.{isCode}
 use Rattle.codes.specs.Nearest.{nearest, outcomeOf}
-use Rattle.codes.proofs.Words.{IsCode, code-of-test}
+use Rattle.codes.proofs.Words.{code-of-test}
 use Rattle.codes.proofs.Nearest.{nearest-code, outcome-clean}
 use Rattle.annexg.specs.Read.{State, readWord}
-use Rattle.annexg.specs.Sync.{syncTable, codeFor, syncEnd}
-use Rattle.annexg.specs.declared.Reading.{Reading}
-use Rattle.annexg.specs.declared.Reading.the-variants.{Byte, Unknown}
+use Rattle.annexg.specs.Sync.{codeFor, syncEnd}
 use Rattle.eccblock.specs.Block.{block}
 use Rattle.eccblock.specs.Parts.{rowOf, columnOf}
 use Rattle.eccblock.specs.Encode.{Accepted}
-use Rattle.eccblock.proofs.Laws.{block-length, block-bytes, block-row, block-column, block-row-code, block-column-code, code-row-bytes, code-row-length, code-column-bytes, code-column-length}
-use Rattle.channel.specs.Block.{frameCodes, codeOf, permittedChoices, permittedStream, halfOf, halfAt, sectorPart, readBlock, farRows, heavyRows}
+use Rattle.eccblock.proofs.Laws.{block-length, block-bytes, block-row, block-column, block-row-code, block-column-code, code-row-bytes, code-row-length, code-column-bytes}
+use Rattle.channel.specs.Block.{frameCodes, codeOf, permittedChoices, permittedStream, halfOf, halfAt, sectorPart, readBlock, farRows}
 use Rattle.channel.proofs.Sectors.{part-half, half-of, half-small, reads-whole}
 use Rattle.channel.proofs.Undisturbed.{SyncAt, word-known, sync-known, permitted-length}
 use Rattle.reader.specs.Sector.{isUnknown, unknownAt, isSync, lostSync, unknownTally, syncTally}
+use Rattle.reader.specs.Session.{Lent, callAnswer, blockBuffer}
+use Rattle.reader.specs.declared.SectorRead.the-variants.{Sector}
+use Rattle.reader.proofs.Calls.{call-answer≡tallies, block-buffer≡read-block}
 use Rattle.repairer.specs.Repair.{rowsRepaired, isCorrected, isUncorrectable, tallyOf, talliesOf}
 use Rattle.repairer.specs.Answer.{repairAnswer}
 use Rattle.repairer.specs.declared.Tally.{Tally}
 use Rattle.repairer.specs.declared.Tallies.{Tallies}
-use Rattle.repairer.specs.declared.Repaired.{Repaired}
 use Rattle.repairer.specs.declared.Repaired.the-variants.{Block as RepairedBlock}
-use Rattle.roundtrip.specs.BlockReader.{sectorSum, withSums, blockFits, blockReadAnswer}
-use Rattle.roundtrip.specs.declared.BlockRead.{BlockRead}
+use Rattle.roundtrip.specs.BlockReader.{sectorSum, blockFits, blockReadAnswer}
 use Rattle.roundtrip.specs.declared.BlockRead.the-variants.{Block}
 use Rattle.roundtrip.proofs.Chain.{handed-out}
+use Rattle.roundtrip.proofs.Demand.{HandedOut, near-handed-out}
 
 abbrev pub noTally : Tally
 noTally = record { corrected = 0; uncorrectable = 0 }
@@ -49,7 +49,14 @@ noTally = record { corrected = 0; uncorrectable = 0 }
 abbrev pub noTallies : Tallies
 noTallies = record { rows = noTally; columns = noTally }
 
--- ---- the repairer's tallies of a made block
+-- the main data and the first number are handed out of the stream xs, and nothing is tallied
+pub record Undamaged (main : List ℕ) (first : ℕ) (xs : List ℕ) : Type 0 where
+  pub read : HandedOut main first xs
+  -- by the calls: in no sector an unknown word or a lost SYNC Code, in the block no row or column to repair,
+  pub sectors : (outs : ℕ → List ℕ) → Lent outs → (k : ℕ) → k < 16 → callAnswer xs outs k ≡ Sector 0 0
+  pub answer : (outs : ℕ → List ℕ) → Lent outs → repairAnswer (blockBuffer xs outs) 32768 ≡ RepairedBlock first noTallies
+  -- and by the one call of the whole-block reader
+  pub whole-answer : blockReadAnswer xs 37856 32768 ≡ Block first noTallies 0 0
 
 -- ---- the codes due at a SYNC place
 
@@ -85,6 +92,8 @@ sync-true n a b s c h e f = ap₂ _&&_ (one-of c (code-class s n c h)) (eq-eqb b
     one-of true (inr q) =
         or-right (eqb a (codeFor 1 n false)) _ (or-right (eqb a (codeFor 1 n true)) _ (or-right (eqb a (codeFor 3 n false)) _ (same (codeFor 3 n true) q)))
 
+-- ---- the repairer's tallies of a made block
+
 -- words that are all code words tally nothing
 no-tally : (p t : ℕ) (w : ℕ → List ℕ) (n : ℕ) → ((i : ℕ) → i < n → Bytes (w i) × (isCode p (w i) ≡ true)) → tallyOf p t w n ≡ noTally
 unfolding tallyOf
@@ -118,10 +127,11 @@ module _ (main : List ℕ) (first info : ℕ) (ok : Accepted main first info) wh
       each : (p : ℕ) → p < 37856 → getD (tabulate (λ p. getD (nearest 10 5 (rowOf made (p / 182))) (p % 182) 0) 37856) p 0 ≡ getD made p 0
       each p l =
           let q = p / 182 in
-          getD-tabulate (λ p. getD (nearest 10 5 (rowOf made (p / 182))) (p % 182) 0) 37856 p l
-          ∙ ap (λ (r : List ℕ). getD r (p % 182) 0) (row-stays q (omega arith))
-          ∙ getD-take 182 (drop (q * 182) made) (p % 182) 0 (omega arith) ∙ getD-drop (q * 182) made (p % 182) 0
-          ∙ ap (λ (x : ℕ). getD made x 0) (omega arith)
+          let f : ℕ → ℕ = λ p. getD (nearest 10 5 (rowOf made (p / 182))) (p % 182) 0 in
+          getD (tabulate f 37856) p 0 ≡⟨ getD-tabulate f 37856 p l ⟩ getD (nearest 10 5 (rowOf made q)) (p % 182) 0
+          ≡⟨ ap (λ (r : List ℕ). getD r (p % 182) 0) (row-stays q (omega arith)) ⟩ getD (rowOf made q) (p % 182) 0
+          ≡⟨ getD-take 182 (drop (q * 182) made) (p % 182) 0 (omega arith) ∙ getD-drop (q * 182) made (p % 182) 0 ⟩ getD made (q * 182 + p % 182) 0
+          ≡⟨ ap (λ (x : ℕ). getD made x 0) (omega arith) ⟩ getD made p 0 ∎
 
   no-tallies : talliesOf made ≡ noTallies
   unfolding talliesOf
@@ -129,16 +139,16 @@ module _ (main : List ℕ) (first info : ℕ) (ok : Accepted main first info) wh
       ap₂ (λ (r c : Tally). record { rows = r; columns = c }) (no-tally 10 5 (rowOf made) 208 row-good)
       (ap (λ (ys : List ℕ). tallyOf 16 8 (columnOf ys) 172) rows-stay ∙ no-tally 16 8 (columnOf made) 172 column-good)
 
-  none-far : farRows made made ≡ 0
+  far-self≡0 : farRows made made ≡ 0
   unfolding farRows
-  none-far =
+  far-self≡0 =
       count-none (λ r. ltb 5 (distance (rowOf made r) (rowOf made r))) 0 208
       (λ q l. le-ltb 5 (distance (rowOf made (0 + q)) (rowOf made (0 + q))) (omega (arith, distance-self (rowOf made (0 + q)))))
 
   -- an undamaged block buffer is handed out, and nothing is tallied
-  pub made-handed-out : repairAnswer made 32768 ≡ RepairedBlock first noTallies
+  made-handed-out : repairAnswer made 32768 ≡ RepairedBlock first noTallies
   made-handed-out =
-      handed-out main first info ok made (block-length main first info ok) (block-bytes main first info ok) (omega (arith, none-far))
+      handed-out main first info ok made (block-length main first info ok) (block-bytes main first info ok) (omega (arith, far-self≡0))
       ∙ ap (RepairedBlock first) no-tallies
 
   -- ---- the sector reader's tallies of a permitted stream
@@ -183,9 +193,23 @@ module _ (main : List ℕ) (first info : ℕ) (ok : Accepted main first info) wh
     sum-none t h zero k l = refl
     sum-none t h (suc n) k l = ap₂ (λ (x y : ℕ). x + y) (h k (omega arith)) (sum-none t h n (suc k) (omega arith))
 
+    whole : length laid ≡ 77380
+    whole = permitted-length made cs (block-length main first info ok) p
+
+    reads-made : readBlock laid ≡ made
+    reads-made = reads-whole made cs (block-length main first info ok) (block-bytes main first info ok) p
+
+    laid-handed-out : HandedOut main first laid
+    laid-handed-out = near-handed-out main first info ok laid whole (rw reads-made (omega (arith, far-self≡0)))
+
     -- THE UNDAMAGED STREAM
-    pub undamaged : blockReadAnswer laid 37856 32768 ≡ Block first noTallies 0 0
+    pub undamaged : Undamaged main first laid
     unfolding blockReadAnswer blockFits
-    undamaged =
-        rw (eq-eqb (length laid) 77380 (permitted-length made cs (block-length main first info ok) p), reads-whole made cs (block-length main first info ok) (block-bytes main first info ok) p, made-handed-out)
-        (ap₂ (Block first noTallies) (sum-none unknownTally unknown-none 16 0 (omega arith)) (sum-none syncTally lost-none 16 0 (omega arith)))
+    undamaged = record {
+      read = laid-handed-out;
+      sectors = λ outs lent k h. call-answer≡tallies laid outs whole lent k h ∙ ap₂ Sector (unknown-none k h) (lost-none k h);
+      answer = λ outs lent. ap (λ (b : List ℕ). repairAnswer b 32768) (block-buffer≡read-block laid outs whole lent ∙ reads-made) ∙ made-handed-out;
+      whole-answer =
+          rw (eq-eqb (length laid) 77380 whole, reads-made, made-handed-out)
+          (ap₂ (Block first noTallies) (sum-none unknownTally unknown-none 16 0 (omega arith)) (sum-none syncTally lost-none 16 0 (omega arith)));
+    }

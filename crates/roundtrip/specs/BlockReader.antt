@@ -1,15 +1,14 @@
 -- What the whole-block reader answers and leaves: sixteen sectors are read, each with the two bytes after it, and the sixteen answers, in that order, are the
 -- block buffer that the repairer gets (document 01, 'Reading a word, and the repair').
 -- Assumes nothing.
-use mathlib.Core.Bool.{Bool, true, false, cond, _&&_}
+use mathlib.Core.Bool.{Bool, cond, _&&_}
 use mathlib.Core.List.{List}
 use Prim.Native.Nat.{ℕ, zero, suc, _+_, _%_}
 use lib.Dec.{eqb}
 use lib.ListN.{length}
 use Rattle.channel.specs.Block.{sectorPart, readBlock}
 use Rattle.reader.specs.Sector.{unknownTally, syncTally}
-use Rattle.repairer.specs.Repair.{repaired}
-use Rattle.repairer.specs.Answer.{repairAnswer, blockAfter, mainAfter}
+use Rattle.repairer.specs.Answer.{repairAnswer, blockAfter, mainAfter, repairRefusal, noFrame, refusedFrame}
 use Rattle.repairer.specs.declared.Repaired.{Repaired}
 use Rattle.repairer.specs.declared.Repaired.the-variants.{Block as RepairedBlock, FrameRefused as RepairedRefused, LengthRefused as RepairedLength}
 use Rattle.reader.specs.declared.SectorRead.{SectorRead}
@@ -51,8 +50,24 @@ blockReadBlock xs old m = cond (blockFits xs (length old) m) (blockAfter (readBl
 unfoldable pub blockReadMain : List ℕ → ℕ → List ℕ → List ℕ
 blockReadMain xs b old = cond (blockFits xs b (length old)) (mainAfter (readBlock xs) old) old
 
+-- ---- document 01's numbers
+
+-- the number that a call is refused with: 1 where a length is wrong, else the repairer's over what was read; 0 where nothing is refused
+unfoldable pub blockReadRefusal : List ℕ → ℕ → ℕ → ℕ
+blockReadRefusal xs b m = cond (blockFits xs b m) (repairRefusal (readBlock xs) m) 1
+
+-- the frame that a call is refused for, 0 to 15, by the repairer over what was read; none where a length is wrong
+unfoldable pub blockReadRefusedFrame : List ℕ → ℕ → ℕ → ℕ
+blockReadRefusedFrame xs b m = cond (blockFits xs b m) (refusedFrame (readBlock xs) m) noFrame
+
 -- document 01's number for each answer, 0 where nothing is refused
 abbrev pub blockReadNumber : BlockRead → ℕ
 blockReadNumber (Block first tallies unknown sync) = 0
 blockReadNumber (FrameRefused number frame) = number
 blockReadNumber LengthRefused = 1
+
+-- the frame that each answer carries
+abbrev pub blockReadFrame : BlockRead → ℕ
+blockReadFrame (Block first tallies unknown sync) = noFrame
+blockReadFrame (FrameRefused number frame) = frame
+blockReadFrame LengthRefused = noFrame

@@ -1,18 +1,15 @@
 // The reader of a whole block (document 01, 'Reading a word, and the repair'): sixteen calls of the sector reader, then one of the repairer.
 ghost use mathlib.Core.Path.{_≡_};
-ghost use Prim.Native.Nat.{_+_, _<_, _≤_};
+ghost use Prim.Native.Nat.{_+_, _<_};
 ghost use lib.ListN.{length};
-ghost use Rattle.annexg.specs.Read.{tableOf};
-ghost use Rattle.wordindex.specs.Index.{wordIndex};
-ghost use Rattle.annexg.specs.Sync.{syncTable};
 ghost use Rattle.channel.specs.Block.{readBlock};
 ghost use Rattle.reader.specs.Sector.{unknownTally, syncTally};
-ghost use Rattle.roundtrip.specs.BlockReader.{sectorSum, withSums, blockReadAnswer, blockReadBlock, blockReadMain, blockReadNumber, addSector};
+ghost use Rattle.roundtrip.specs.BlockReader.{sectorSum, withSums, blockReadAnswer, blockReadBlock, blockReadMain, blockReadNumber, blockReadRefusal, blockReadFrame, blockReadRefusedFrame, addSector};
 use reader::SectorRead;
 use repairer::Repaired;
 use repairer::Tallies;
 
-// What the whole-block reader answers. Document 01's number of each is `blockReadNumber`.
+// What the whole-block reader answers. Document 01's number of each is `blockReadNumber`, and the frame it carries `blockReadFrame`.
 pub enum BlockRead {
     // All frames pass: the main data are handed out, with the first number, the repairer's tallies and the sums of the sector tallies.
     Block {
@@ -95,7 +92,11 @@ fn answer_of(r: Repaired, s: Sums) -> BlockRead
 
 // The whole-block reader. Where a buffer has another length than stated, everything is left as it was.
 pub fn read_block(stream: &[u8], block: &mut [u8], main: &mut [u8]) -> BlockRead
-    ensures { λ r. ⌜ (r ≡ blockReadAnswer (now (stream .entry)) (length (now (block .entry))) (length (now (main .entry)))) × (now (block .exit) ≡ blockReadBlock (now (stream .entry)) (now (block .entry)) (length (now (main .entry)))) × (now (main .exit) ≡ blockReadMain (now (stream .entry)) (length (now (block .entry))) (now (main .entry))) ⌝ }
+    ensures { λ r. ⌜ r ≡ blockReadAnswer (now (stream .entry)) (length (now (block .entry))) (length (now (main .entry))) ⌝ }
+    ensures { λ r. ⌜ blockReadNumber r ≡ blockReadRefusal (now (stream .entry)) (length (now (block .entry))) (length (now (main .entry))) ⌝ }
+    ensures { λ r. ⌜ blockReadFrame r ≡ blockReadRefusedFrame (now (stream .entry)) (length (now (block .entry))) (length (now (main .entry))) ⌝ }
+    ensures { λ r. ⌜ now (block .exit) ≡ blockReadBlock (now (stream .entry)) (now (block .entry)) (length (now (main .entry))) ⌝ }
+    ensures { λ r. ⌜ now (main .exit) ≡ blockReadMain (now (stream .entry)) (length (now (block .entry))) (now (main .entry)) ⌝ }
 {
     if stream.len() != 77380 {
         return BlockRead::LengthRefused;
@@ -111,7 +112,7 @@ pub fn read_block(stream: &[u8], block: &mut [u8], main: &mut [u8]) -> BlockRead
     answer_of(r, s)
 }
 
-// Document 01's number for an answer.
+// Document 01's number of an answer, 0 where nothing is refused.
 pub fn block_read_number(r: BlockRead) -> u8
     ensures { λ n. ⌜ n ≡ blockReadNumber r ⌝ }
 {

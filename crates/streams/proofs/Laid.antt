@@ -10,6 +10,7 @@ use lib.Dec.{T, eqb, ltb, leb}
 use Rattle.lists.proofs.Test.{and-left, and-right}
 use Rattle.annexg.specs.Read.{entryOf}
 use Rattle.annexg.specs.Runs.{inside}
+use Rattle.annexg.specs.Sync.{syncEnd, codeFor}
 use Rattle.channel.specs.Bits.{bitsAll}
 use Rattle.channel.specs.Channel.{Item, sync, byte, nextFor, lastFor, joinRun, swaps, allowed, permitted, stream, stateAfter, lastAfter}
 use Rattle.levels.specs.Level.{levelAfter, dsvAfter, runAfter}
@@ -198,7 +199,7 @@ all-laid a is m (i ∷ js) (c ∷ ds) h p =
     then : (m : Stream) (i : Item) (c : Bool) (js : List Item) (ds : List Bool) → T (permitted (nextFor (m .run .state) i c) (lastFor (m .run .state) i c) js ds) → T (permitted (lay m i c .run .state) (lay m i c .last) js ds)
     then m i c js ds p = unfold lay in p
 
--- after a SYNC Code the State is 1 and the last half is the same, whichever code it was and whatever half came before it
+-- what is permitted after a SYNC Code is permitted after the other code of its number too, and whatever half came before it
 sync-any : (s l l₂ n : ℕ) (is : List Item) (cs : List Bool) → T (permitted s l (sync n ∷ is) cs) → T (permitted s l₂ (sync n ∷ is) cs)
 unfolding permitted
 sync-any s l l₂ n is [] p = p
@@ -224,6 +225,37 @@ frame-laid a n bs = by (changes a n bs (lower (steps (opened a n) bs)))
     by : (x : Bool) → Laid a (frameItems n bs) (cond x (otherCode a n bs (lower (steps (opened a n) bs))) (lower (steps (opened a n) bs)))
     by true = other-laid a n bs (lower (steps (opened a n) bs)) low
     by false = low
+
+-- ---- a frame's stream by its choices
+
+-- items laid one by one are laid at once
+all-choices : (m : Stream) (s l : ℕ) (is : List Item) (cs : List Bool) → T (permitted s l is cs) → layAll m is cs .choices ≡ m .choices ++ cs
+unfolding layAll permitted
+all-choices m s l [] [] p = sym (append-nil (m .choices))
+all-choices m s l [] (c ∷ cs) p = absurd p
+all-choices m s l (i ∷ is) [] p = absurd p
+all-choices m s l (i ∷ is) (c ∷ cs) p =
+    all-choices (lay m i c) (nextFor s i c) (lastFor s i c) is cs (and-right (allowed s l i c) (permitted (nextFor s i c) (lastFor s i c) is cs) p)
+    ∙ unfold lay in append-assoc (m .choices) (c ∷ []) cs
+
+pub all-by : (r : Run) (is : List Item) (cs : List Bool) → T (permitted (r .state) 0 is cs) → layAll (fresh r) is cs ≡ laidBy r is cs
+all-by r is cs p = all-laid r [] (fresh r) is cs (laid-fresh r) p .same ∙ ap (laidBy r is) (all-choices (fresh r) (r .state) 0 is cs p)
+
+-- the half words after the first
+unfoldable pub rest : List ℕ → List Bool → List ℕ
+rest bs ds = syncEnd ∷ stream 1 (map byte bs) ds
+
+pub laid-halves : (r : Run) (n : ℕ) (bs : List ℕ) (c : Bool) (ds : List Bool) → laidBy r (frameItems n bs) (c ∷ ds) .halves ≡ codeFor (r .state) n c ∷ rest bs ds
+unfolding laidBy extended stream rest
+laid-halves r n bs c ds = refl
+
+pub laid-run :
+    (r : Run) (n : ℕ) (bs : List ℕ) (c : Bool) (ds : List Bool)
+    → laidBy r (frameItems n bs) (c ∷ ds) .run ≡ runAfter r (stateAfter 1 (map byte bs) ds) (codeFor (r .state) n c ∷ rest bs ds)
+unfolding laidBy extended stream stateAfter rest
+laid-run r n bs c ds = refl
+
+-- ---- one stream after another
 
 -- a stream that begins with a SYNC Code, after another
 join-extends :

@@ -1,3 +1,4 @@
 pub mod Laid
 pub mod Frames
 pub mod Range
+pub mod Shown

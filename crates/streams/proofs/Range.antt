@@ -73,7 +73,7 @@ pub laid-state : (a : Run) (is : List Item) (m : Stream) → Laid a is m → T (
 unfolding laidBy extended
 laid-state a is m h p s = subst (λ (x : Stream). State (x .run .state)) (sym (h .same)) (state-after (a .state) 0 is (m .choices) p s (h .ok))
 
--- RANGE: a sector is 2,418 half words, the closing code two
+-- RANGE: a sector is at most 2,418 half words, the closing code two, and each moves the DSV by at most 16
 pub sector-near : (r : Run) (bs : List ℕ) → Room r 38688 → Near r (sectorOf r bs .run) 2418
 sector-near r bs g = laid-near r (frames 0 26 bs) (sectorOf r bs) 2418 0 (sector-laid r bs) g (width-frames 26 0 bs)
 

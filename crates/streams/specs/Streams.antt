@@ -1,5 +1,6 @@
 -- The choice between two streams over a Sync Frame (clause 22 of ECMA-268; document 01, "The choice between two streams").
--- Two streams are laid side by side. Choices, half words and running record are carried along, so that a copy takes them all.
+-- Two streams are laid side by side. Choices, half words and running record are carried along, so that a copy takes them all. `frameOf` is the stream shown,
+-- `bufferAfter` what each of the two buffers lent holds after the frame.
 -- Assumes nothing.
 use mathlib.Core.Bool.{Bool, true, false, not, cond, _&&_, _||_}
 use mathlib.Core.List.{List, [], _∷_, _++_, map}
@@ -7,6 +8,7 @@ use Prim.Native.Nat.{ℕ, _+_}
 use lib.Dec.{eqb, leb, ltb}
 use Rattle.annexg.specs.Read.{wordOf}
 use Rattle.annexg.specs.Runs.{inside}
+use Rattle.channel.specs.Block.{packed}
 use Rattle.channel.specs.Channel.{Item, sync, byte, halvesFor, nextFor, lastFor, joinRun, swaps}
 use Rattle.levels.specs.Level.{zeroAt, magnitude, runAfter}
 use Rattle.levels.specs.declared.Run.{Run}
@@ -91,6 +93,10 @@ unfoldable pub steps : Two → List ℕ → Two
 steps t [] = t
 steps t (b ∷ bs) = steps (step t b) bs
 
+-- both streams over the bytes bs of a frame with SYNC Code SYn, from the running record r
+abbrev pub filled : Run → ℕ → List ℕ → Two
+filled r n bs = steps (opened r n) bs
+
 -- ---- the frame's end
 
 abbrev pub frameItems : ℕ → List ℕ → List Item
@@ -117,4 +123,19 @@ ended r n bs m = cond (changes r n bs m) (otherCode r n bs m) m
 
 -- the stream shown for a frame with SYNC Code SYn and the bytes bs, from the running record r: the lower at the frame's end
 unfoldable pub frameOf : Run → ℕ → List ℕ → Stream
-frameOf r n bs = ended r n bs (lower (steps (opened r n) bs))
+frameOf r n bs = ended r n bs (lower (filled r n bs))
+
+-- ---- the two buffers lent, for Stream 1 (`true`) and for Stream 2 (`false`)
+
+abbrev pub streamOf : Bool → Two → Stream
+streamOf first t = cond first (t .one) (t .two)
+
+-- the stream shown is the lower
+abbrev pub isShown : Bool → Two → Bool
+isShown first t = cond first (oneLower t) (not (oneLower t))
+
+-- what a buffer holds after the frame. A change of the SYNC Code is made in the buffer shown; the other buffer keeps its own stream
+unfoldable pub bufferAfter : Bool → Run → ℕ → List ℕ → List ℕ
+bufferAfter first r n bs =
+    let m = streamOf first (filled r n bs) in
+    packed (cond (isShown first (filled r n bs)) (ended r n bs m) m .halves)

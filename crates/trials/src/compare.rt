@@ -18,7 +18,7 @@ fn differs_at(a: &[u8], b: &[u8], i: usize) -> u64
 }
 
 // In how many bytes two words differ, up to the shorter one's end.
-pub fn differing(a: &[u8], b: &[u8]) -> u64
+pub(crate) fn differing(a: &[u8], b: &[u8]) -> u64
     ensures { λ r. ⌜ r ≤ length (now (a .entry)) ⌝ }
 {
     let mut n: u64 = 0;
@@ -65,7 +65,7 @@ fn is_read(s: &[u8], at: usize, after: u16, b: u8) -> u64
 }
 
 // How many bytes of a block or a sector are read back from its stream, each at its place: 91 Code Words after each SYNC Code.
-pub fn read_back(s: &[u8], bytes: &[u8], after: u16) -> u64
+pub(crate) fn read_back(s: &[u8], bytes: &[u8], after: u16) -> u64
     ensures { λ r. ⌜ r ≤ length (now (bytes .entry)) ⌝ }
 {
     if 37856 < bytes.len() {

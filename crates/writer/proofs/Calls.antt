@@ -140,14 +140,27 @@ sector-next w b out z =
     let f = eq-eqb (sectorRefusal w (length b) (length out)) 0 z in
     (ap (λ (x : Bool). cond x (afterSector w b) w) (sym f), ap (λ (x : Bool). cond x (packed (sectorOf (runOf w) b .halves)) out) (sym f))
 
+-- the calls for the sixteen sectors of a block and for closing: none is refused, and what their buffers hold then is the stream of permitted choices
+pub record BlockWritten (bs : List ℕ) (outs : ℕ → List ℕ) (end : List ℕ) : Type 0 where
+  pub sectors : (k : ℕ) → k < 16 → sectorRefusal (sectorCalls start bs outs k .next) (length (take 2366 (drop (2366 * k) bs))) (length (outs k)) ≡ 0
+  pub closing : closingRefusal (sectorCalls start bs outs 16 .next) (length end) ≡ 0
+  pub choices : T (permittedChoices bs (choicesOf (runOf start) bs))
+  pub stream : blockCalls bs outs end .bytes ≡ permittedStream bs (choicesOf (runOf start) bs)
+
 module _ (bs : List ℕ) (outs : ℕ → List ℕ) (e : length bs ≡ 37856) (hb : Bytes bs) (ho : (k : ℕ) → k < 16 → length (outs k) ≡ 4836) where
+  sector-not-refused : (n : ℕ) → n < 16 → Going bs n (sectorCalls start bs outs n)
+      → sectorRefusal (sectorCalls start bs outs n .next) (length (take 2366 (drop (2366 * n) bs))) (length (outs n)) ≡ 0
+  sector-not-refused n h g =
+      let b = take 2366 (drop (2366 * n) bs) in
+      let l : length b ≡ 2366 = length-take 2366 (drop (2366 * n) bs) ∙ omega (arith, length-drop (2366 * n) bs) in
+      no-refusal (sectorCalls start bs outs n .next) (length b) (length (outs n)) (g .is) (g .open-yet) (omega (arith, g .count)) l (ho n h)
+
   going-more : (n : ℕ) → n < 16 → Going bs n (sectorCalls start bs outs n) → Going bs (suc n) (sectorCalls start bs outs (suc n))
   unfolding sectorCalls sectorsOf
   going-more n h g =
       let w = sectorCalls start bs outs n .next in
       let b = take 2366 (drop (2366 * n) bs) in
-      let l : length b ≡ 2366 = length-take 2366 (drop (2366 * n) bs) ∙ omega (arith, length-drop (2366 * n) bs) in
-      let z = no-refusal w (length b) (length (outs n)) (g .is) (g .open-yet) (omega (arith, g .count)) l (ho n h) in
+      let z = sector-not-refused n h g in
       let o = sector-opens w (length b) (length (outs n)) z in
       let x = sector-next w b (outs n) z in
       let m = sectorsOf (runOf start) bs n in
@@ -164,24 +177,38 @@ module _ (bs : List ℕ) (outs : ℕ → List ℕ) (e : length bs ≡ 37856) (hb
   going zero h = going-none bs outs
   going (suc n) h = going-more n (omega arith) (going n (omega arith))
 
-  -- PERMITTED: from the first record sixteen sectors and closing are not refused, and what their buffers hold then is a permitted stream of the block
-  pub block-written : (end : List ℕ) → length end ≡ 4 → T (permittedChoices bs (choicesOf (runOf start) bs)) × (blockCalls bs outs end .bytes ≡ permittedStream bs (choicesOf (runOf start) bs))
-  unfolding blockCalls blockOf closingOut
-  block-written end l =
-      let g = going 16 (omega arith) in
-      let w = sectorCalls start bs outs 16 .next in
-      let z = eq-eqb (closingRefusal w (length end)) 0 (closing-free w (length end) (g .is) (g .open-yet) (g .count) l) in
-      let m = sectorsOf (runOf start) bs 16 in (
-        block-permitted (runOf start) bs refl,
-        ap₂ (λ (u v : List ℕ). u ++ v) (g .laid) (ap (λ (x : Bool). cond x (packed (closingOf (runOf w) .halves)) end) z ∙ ap (λ (r : Run). packed (closingOf r .halves)) (g .run))
-            ∙ sym (packed-append (m .halves) (closingOf (m .run) .halves)) ∙ block-stream (runOf start) bs refl,
-      )
+  module _ (end : List ℕ) (l : length end ≡ 4) where
+    closing-not-refused : closingRefusal (sectorCalls start bs outs 16 .next) (length end) ≡ 0
+    closing-not-refused =
+        let g = going 16 (omega arith) in
+        closing-free (sectorCalls start bs outs 16 .next) (length end) (g .is) (g .open-yet) (g .count) l
 
-  -- and the record then: State 1, sixteen sectors, closed
-  pub block-closed : (end : List ℕ) → length end ≡ 4 → blockCalls bs outs end .next ≡ recordOf (blockOf (runOf start) bs .run) 16 true
-  unfolding blockCalls blockOf closingNext
-  block-closed end l =
-      let g = going 16 (omega arith) in
-      let w = sectorCalls start bs outs 16 .next in
-      let z = eq-eqb (closingRefusal w (length end)) 0 (closing-free w (length end) (g .is) (g .open-yet) (g .count) l) in
-      ap (λ (x : Bool). cond x (afterClosing w) w) z ∙ ap₂ (λ (r : Run) (n : ℕ). recordOf (closingOf r .run) n true) (g .run) (g .count)
+    -- PERMITTED: from the first record sixteen sectors and closing are not refused, and what their buffers hold then is a permitted stream of the block
+    pub block-written : BlockWritten bs outs end
+    unfolding blockCalls blockOf closingOut
+    block-written =
+        let g = going 16 (omega arith) in
+        let w = sectorCalls start bs outs 16 .next in
+        let z = eq-eqb (closingRefusal w (length end)) 0 closing-not-refused in
+        let m = sectorsOf (runOf start) bs 16 in
+        record {
+          sectors = λ k h. sector-not-refused k h (going k (omega arith));
+          closing = closing-not-refused;
+          choices = block-permitted (runOf start) bs refl;
+          stream = ap₂ (λ (u v : List ℕ). u ++ v) (g .laid) (ap (λ (x : Bool). cond x (packed (closingOf (runOf w) .halves)) end) z ∙ ap (λ (r : Run). packed (closingOf r .halves)) (g .run))
+              ∙ sym (packed-append (m .halves) (closingOf (m .run) .halves)) ∙ block-stream (runOf start) bs refl;
+        }
+
+    -- and the record then is the one that the rule over the block leaves, with sixteen sectors, closed
+    pub block-closed : blockCalls bs outs end .next ≡ recordOf (blockOf (runOf start) bs .run) 16 true
+    unfolding blockCalls blockOf closingNext
+    block-closed =
+        let g = going 16 (omega arith) in
+        let w = sectorCalls start bs outs 16 .next in
+        let z = eq-eqb (closingRefusal w (length end)) 0 closing-not-refused in
+        ap (λ (x : Bool). cond x (afterClosing w) w) z ∙ ap₂ (λ (r : Run) (n : ℕ). recordOf (closingOf r .run) n true) (g .run) (g .count)
+
+    -- at State 1
+    pub block-closed-state≡1 : blockCalls bs outs end .next .state ≡ 1
+    unfolding blockOf
+    block-closed-state≡1 = ap (λ (r : Record). r .state) block-closed ∙ closing-state (sectorsOf (runOf start) bs 16 .run)

@@ -20,14 +20,13 @@ use Rattle.levels.specs.declared.Run.{Run}
 use Rattle.channel.proofs.Joined.{packed-append}
 use Rattle.channel.proofs.Places.{code-proper, frames-proper}
 use Rattle.streams.specs.Frames.{joined, framesOf, sectorOf}
-use Rattle.streams.specs.Streams.{Stream, frameOf}
+use Rattle.streams.specs.Streams.{Stream, oneLower, filled, frameOf, bufferAfter}
 use Rattle.streams.proofs.Frames.{frames-laid, frames-take}
 use Rattle.streams.proofs.Range.{laid-room, laid-state, width-frames}
-use Rattle.frames.specs.Inner.{Whole, Framed}
+use Rattle.streams.proofs.Shown.{selected-shown}
 use Rattle.writer.specs.Inner.{SectorBegins, Pasted}
 use Rattle.frames.specs.declared.Shown.{Shown}
 use Rattle.frames.proofs.Ended.{room-le}
-use Rattle.frames.proofs.Filling.{shown}
 
 -- ---- the code of a frame
 
@@ -69,6 +68,16 @@ pub laying-none : (r : Run) (bs out : List ℕ) → Laying r r bs out 0
 unfolding framesOf packed
 laying-none r bs out = record { run-is = refl; bytes = refl }
 
+-- what `frames::frame` promises, with the buffers x and y at exit
+abbrev pub Framed : Run → ℕ → List ℕ → List ℕ → List ℕ → Shown → Type 0
+Framed r n bs x y q =
+    (q .first ≡ oneLower (filled r n bs)) × ((x ≡ bufferAfter true r n bs) × ((y ≡ bufferAfter false r n bs) × (q .run ≡ frameOf r n bs .run)))
+
+-- the buffer of the stream shown
+shown : (r : Run) (n : ℕ) (bs x y : List ℕ) (q : Shown) → Framed r n bs x y q → cond (q .first) x y ≡ packed (frameOf r n bs .halves)
+shown r n bs x y q f =
+    ap (λ (b : Bool). cond b x y) (f .0) ∙ ap₂ (λ (u v : List ℕ). cond (oneLower (filled r n bs)) u v) (f .1 .0) (f .1 .1 .0) ∙ selected-shown r n bs
+
 pub laying-more :
     (r run : Run) (q : Shown) (bs out part x y sel out₁ : List ℕ) (k n : ℕ) → Laying r run bs out k → n ≡ codeOf k → part ≡ take 91 (drop (91 * k) bs) → Framed run n part x y q
     → length x ≡ 186 → length y ≡ 186 → sel ≡ take 186 (cond (q .first) x y) → Pasted sel out (186 * k) out₁ → Laying r (q .run) bs out₁ (k + 1)
@@ -81,7 +90,7 @@ laying-more r run q bs out part x y sel out₁ k n l ne pe f lx ly se g =
     let w : 186 * (k + 1) ≡ 186 * k + 186 = omega arith in
     let h = more k in
     record {
-      run-is = f .run ∙ ap (λ (z : Stream). z .run) e ∙ ap (λ (z : Stream). z .run) (sym h);
+      run-is = f .1 .1 .1 ∙ ap (λ (z : Stream). z .run) e ∙ ap (λ (z : Stream). z .run) (sym h);
       bytes =
           ap (λ (z : ℕ). take z out₁) w ∙ g .front ∙ ap₂ (λ (u v : List ℕ). u ++ v) (l .bytes) s
           ∙ sym (packed-append (m .halves) (frameOf (m .run) (codeOf k) b .halves)) ∙ ap (λ (z : Stream). packed (z .halves)) (sym h);
@@ -94,12 +103,9 @@ laying-more r run q bs out part x y sel out₁ k n l ne pe f lx ly se g =
     more : (k : ℕ) → framesOf r bs (k + 1) ≡ joined (framesOf r bs k) (frameOf (framesOf r bs k .run) (codeOf k) (take 91 (drop (91 * k) bs)))
     more k = unfold framesOf in ap (framesOf r bs) (add-one k)
 
-pub laying-all : (r run : Run) (bs out : List ℕ) (k : ℕ) → k ≡ 26 → length out ≡ 4836 → Laying r run bs out k → Whole run out (sectorOf r bs)
+pub laying-all : (r run : Run) (bs out : List ℕ) (k : ℕ) → k ≡ 26 → length out ≡ 4836 → Laying r run bs out k → (run ≡ sectorOf r bs .run) × (out ≡ packed (sectorOf r bs .halves))
 laying-all r run bs out k e l h =
-    record {
-      run = h .run-is ∙ ap (λ (z : ℕ). framesOf r bs z .run) e;
-      bytes = sym (take-all (186 * k) out (omega arith)) ∙ h .bytes ∙ ap (λ (z : ℕ). packed (framesOf r bs z .halves)) e;
-    }
+    (h .run-is ∙ ap (λ (z : ℕ). framesOf r bs z .run) e, sym (take-all (186 * k) out (omega arith)) ∙ h .bytes ∙ ap (λ (z : ℕ). packed (framesOf r bs z .halves)) e)
 
 -- ---- a frame may begin before each of the 26
 

@@ -5,8 +5,8 @@ use mathlib.Core.Bool.{Bool, true, false, not, cond, _&&_, _||_}
 use mathlib.Core.List.{List}
 use Prim.Native.Nat.{ℕ, _+_, _*_, _<_, _≤_}
 use native.Mathlib.Omega.{arith}
-use borrow.Author.Tests.{eqb-true, leb-true, leb-false, lt-leb, eq-eqb, ne-eqb}
-use lib.Dec.{T, eqb, leb, leb→le, le→leb}
+use borrow.Author.Tests.{eqb-true, leb-true, leb-false, lt-leb, lt-ltb, le-ltb, eq-eqb, ne-eqb}
+use lib.Dec.{T, eqb, ltb, leb, leb→le, le→leb}
 use lib.IntN.{natAbs}
 use lib.ListN.{length}
 use Rattle.lists.specs.Count.{bit}
@@ -20,7 +20,6 @@ use Rattle.levels.specs.declared.Run.{Run}
 use Rattle.streams.specs.Frames.{sectorOf, closingOf}
 use Rattle.streams.proofs.Range.{sector-near, closing-near}
 use Rattle.writer.specs.Answers.{sound, sectorRefusal, closingRefusal, sectorNext, sectorOut, closingNext, closingOut}
-use Rattle.frames.specs.Inner.{Whole}
 use Rattle.writer.specs.Inner.{SectorBegins}
 use Rattle.writer.specs.Records.{runOf, recordOf, afterSector, afterClosing}
 use Rattle.writer.specs.declared.Record.{Record}
@@ -52,6 +51,26 @@ pub closing-by :
 unfolding closingRefusal
 closing-by w to a c d e p r s t =
     sym (ap₂ (λ (x y : Bool). cond x (cond y (cond (w .closed) 7 (cond (leb 16 (w .sectors)) 0 8)) 9) 1) p r ∙ ap₂ (λ (x y : Bool). cond a (cond c (cond x 7 (cond y 0 8)) 9) 1) s t)
+
+-- the answer because of the state, where the lengths are right
+pub sector-by-state :
+    (w : Record) (from to k : ℕ) (s e : Bool) → from ≡ 2366 → to ≡ 4836 → s ≡ sound w → e ≡ w .closed || leb 16 (w .sectors) → k ≡ cond s (cond e 7 0) 9
+    → k ≡ sectorRefusal w from to
+sector-by-state w from to k s e f t se ee h =
+    h ∙ ap₂ (λ (x y : Bool). cond x (cond y 7 0) 9) se ee ∙ sector-by w from to true true (sound w) (w .closed) (leb 16 (w .sectors)) (eq-eqb from 2366 f) (eq-eqb to 4836 t) refl refl refl
+
+unfinished : (n : ℕ) → _≡_ {A = ℕ} (cond (ltb n 16) 8 0) (cond (leb 16 n) 0 8)
+unfinished n = by (leb 16 n) refl
+  where
+    by : (b : Bool) → leb 16 n ≡ b → _≡_ {A = ℕ} (cond (ltb n 16) 8 0) (cond b 0 8)
+    by true e = ap (λ (x : Bool). cond x 8 0) (le-ltb n 16 (leb-true 16 n e))
+    by false e = ap (λ (x : Bool). cond x 8 0) (lt-ltb n 16 (leb-false 16 n e))
+
+pub closing-by-state :
+    (w : Record) (to k : ℕ) (s : Bool) → to ≡ 4 → s ≡ sound w → k ≡ cond s (cond (w .closed) 7 (cond (ltb (w .sectors) 16) 8 0)) 9 → k ≡ closingRefusal w to
+closing-by-state w to k s t se h =
+    h ∙ ap₂ (λ (x : Bool) (y : ℕ). cond x (cond (w .closed) 7 y) 9) se (unfinished (w .sectors))
+    ∙ closing-by w to true (sound w) (w .closed) (leb 16 (w .sectors)) (eq-eqb to 4 t) refl refl refl
 
 -- ---- a sound record, part by part
 
@@ -114,7 +133,7 @@ module _ (w : Record) where
     pub near : natAbs (w .dsv) ≤ 1099511627776
     near = omega (arith, s .dsv, s .sectors, bit-le (w .closed))
 
-    -- the DSV inside lies 38,688 off either end, and more
+    -- the DSV inside lies 38,688 off either end
     pub sound-room : (n : ℕ) → n ≤ 38688 → Room (runOf w) n
     sound-room n h =
         let a = abs-offset (w .dsv) near in
@@ -172,12 +191,13 @@ module _ (w : Record) (bs out : List ℕ) (no : ℕ) (e : no ≡ sectorRefusal w
       (sym (ap (λ (b : Bool). cond b (afterSector w bs) w) f), sym (ap (λ (b : Bool). cond b (packed (sectorOf (runOf w) bs .halves)) out) f))
 
   pub sector-done :
-      no ≡ 0 → (q : Run) (y : List ℕ) → Whole q y (sectorOf (runOf w) bs) → (recordOf q (w .sectors + 1) (w .closed) ≡ sectorNext w bs (length out)) × (y ≡ sectorOut w bs out)
+      no ≡ 0 → (r : Run) → r ≡ runOf w → (q : Run) (y : List ℕ) → (q ≡ sectorOf r bs .run) × (y ≡ packed (sectorOf r bs .halves))
+      → (recordOf q (w .sectors + 1) (w .closed) ≡ sectorNext w bs (length out)) × (y ≡ sectorOut w bs out)
   unfolding sectorNext sectorOut
-  sector-done z q y h =
+  sector-done z r re q y h =
       let f : eqb (sectorRefusal w (length bs) (length out)) 0 ≡ true = eq-eqb _ 0 (sym e ∙ z) in (
-        ap (λ (v : Run). recordOf v (w .sectors + 1) (w .closed)) (h .run) ∙ sym (ap (λ (b : Bool). cond b (afterSector w bs) w) f),
-        h .bytes ∙ sym (ap (λ (b : Bool). cond b (packed (sectorOf (runOf w) bs .halves)) out) f),
+        ap (λ (v : Run). recordOf v (w .sectors + 1) (w .closed)) (h .0 ∙ ap (λ (v : Run). sectorOf v bs .run) re) ∙ sym (ap (λ (b : Bool). cond b (afterSector w bs) w) f),
+        h .1 ∙ ap (λ (v : Run). packed (sectorOf v bs .halves)) re ∙ sym (ap (λ (b : Bool). cond b (packed (sectorOf (runOf w) bs .halves)) out) f),
       )
 
 module _ (w : Record) (out : List ℕ) (no : ℕ) (e : no ≡ closingRefusal w (length out)) where
@@ -187,12 +207,14 @@ module _ (w : Record) (out : List ℕ) (no : ℕ) (e : no ≡ closingRefusal w (
       let f : eqb (closingRefusal w (length out)) 0 ≡ false = ne-eqb _ 0 (λ k. z (e ∙ k)) in
       (sym (ap (λ (b : Bool). cond b (afterClosing w) w) f), sym (ap (λ (b : Bool). cond b (packed (closingOf (runOf w) .halves)) out) f))
 
-  pub closing-done : no ≡ 0 → (q : Run) (y : List ℕ) → Whole q y (closingOf (runOf w)) → (recordOf q (w .sectors) true ≡ closingNext w (length out)) × (y ≡ closingOut w out)
+  pub closing-done :
+      no ≡ 0 → (r : Run) → r ≡ runOf w → (q : Run) (y : List ℕ) → (q ≡ closingOf r .run) × (y ≡ packed (closingOf r .halves))
+      → (recordOf q (w .sectors) true ≡ closingNext w (length out)) × (y ≡ closingOut w out)
   unfolding closingNext closingOut
-  closing-done z q y h =
+  closing-done z r re q y h =
       let f : eqb (closingRefusal w (length out)) 0 ≡ true = eq-eqb _ 0 (sym e ∙ z) in (
-        ap (λ (v : Run). recordOf v (w .sectors) true) (h .run) ∙ sym (ap (λ (b : Bool). cond b (afterClosing w) w) f),
-        h .bytes ∙ sym (ap (λ (b : Bool). cond b (packed (closingOf (runOf w) .halves)) out) f),
+        ap (λ (v : Run). recordOf v (w .sectors) true) (h .0 ∙ ap (λ (v : Run). closingOf v .run) re) ∙ sym (ap (λ (b : Bool). cond b (afterClosing w) w) f),
+        h .1 ∙ ap (λ (v : Run). packed (closingOf v .halves)) re ∙ sym (ap (λ (b : Bool). cond b (packed (closingOf (runOf w) .halves)) out) f),
       )
 
 -- ---- the DSV after a sector and after the closing code

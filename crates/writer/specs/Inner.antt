@@ -1,4 +1,4 @@
--- The vocabulary of inner contracts. No law cites it.
+-- Vocabulary of inner contracts: what the functions of src/sector.rt ask of each other. None of them is public, and no public contract cites it.
 -- Assumes nothing.
 use mathlib.Core.Path.{_≡_}
 use mathlib.Core.List.{List, _++_}

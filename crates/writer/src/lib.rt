@@ -8,6 +8,7 @@ ghost use Rattle.writer.specs.Records.{start};
 ghost use Rattle.writer.specs.Answers.{number, sectorRefusal, sectorNext, sectorOut, closingRefusal, closingNext, closingOut};
 
 // The writer's record: the State prescribed next, the NRZI level, the DSV, the sectors written, and whether the closing code is written.
+#[repr(C)]
 pub struct Record {
     pub state: u8,
     pub level: u8,

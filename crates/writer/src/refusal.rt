@@ -1,6 +1,6 @@
 // The writer's record: its DSV, signed for the user and with 0 at 2^40 inside, and the refusals that hang on it.
 ghost use mathlib.Core.Path.{_≡_};
-ghost use mathlib.Core.Bool.{not, _||_};
+ghost use mathlib.Core.Bool.{not, cond, _||_};
 ghost use Prim.Native.Nat.{_+_, _*_, _≤_};
 ghost use lib.Dec.{leb};
 ghost use lib.IntN.{natAbs};
@@ -107,6 +107,33 @@ fn is_sound(w: Record) -> bool
     levels::absolute(offset_of(w.dsv)) <= limit(w.sectors, w.closed)
 }
 
+// No sector may follow: the closing code is written, or the sixteenth sector.
+fn is_ended(closed: bool, sectors: u32) -> bool
+    ensures { λ r. ⌜ r ≡ closed || leb 16 sectors ⌝ }
+{
+    if closed {
+        return true;
+    }
+    16 <= sectors
+}
+
+// The refusals because of the state, in their order: 9, then 7, then 8.
+// Numbers 9, 7 and 8 in their order: 9 goes before the others (document 01).
+fn state_refusal(sound: bool, ended: bool, unfinished: bool) -> Answer
+    ensures { λ r. ⌜ number r ≡ cond sound (cond ended 7 (cond unfinished 8 0)) 9 ⌝ }
+{
+    if !sound {
+        return Answer::BadRecord;
+    }
+    if ended {
+        return Answer::RunEnded;
+    }
+    if unfinished {
+        return Answer::RunUnfinished;
+    }
+    Answer::Done
+}
+
 // The refusal of a sector, by the lengths of its bytes and of its buffer.
 pub(crate) fn sector_refusal(w: Record, from: usize, to: usize) -> Answer
     ensures { λ r. ⌜ number r ≡ sectorRefusal w from to ⌝ }
@@ -117,16 +144,7 @@ pub(crate) fn sector_refusal(w: Record, from: usize, to: usize) -> Answer
     if to != 4836 {
         return Answer::WrongLength;
     }
-    if !is_sound(w) {
-        return Answer::BadRecord;
-    }
-    if w.closed {
-        return Answer::RunEnded;
-    }
-    if 16 <= w.sectors {
-        return Answer::RunEnded;
-    }
-    Answer::Done
+    state_refusal(is_sound(w), is_ended(w.closed, w.sectors), false)
 }
 
 // The refusal of closing, by the length of its buffer.
@@ -136,14 +154,5 @@ pub(crate) fn closing_refusal(w: Record, to: usize) -> Answer
     if to != 4 {
         return Answer::WrongLength;
     }
-    if !is_sound(w) {
-        return Answer::BadRecord;
-    }
-    if w.closed {
-        return Answer::RunEnded;
-    }
-    if w.sectors < 16 {
-        return Answer::RunUnfinished;
-    }
-    Answer::Done
+    state_refusal(is_sound(w), w.closed, w.sectors < 16)
 }

@@ -5,11 +5,10 @@ ghost use Prim.Native.Nat.{_+_, _<_, _≤_};
 ghost use lib.ListN.{length, take};
 ghost use Rattle.annexg.specs.Read.{tableOf};
 ghost use Rattle.annexg.specs.Sync.{syncTable};
-ghost use Rattle.channel.specs.Block.{codeOf, frameCodes};
+ghost use Rattle.channel.specs.Block.{codeOf, frameCodes, packed};
 ghost use Rattle.levels.specs.Level.{Room};
 ghost use Rattle.levels.specs.Levels.{levelTable};
 ghost use Rattle.streams.specs.Frames.{sectorOf, closingOf};
-ghost use Rattle.frames.specs.Inner.{Whole};
 ghost use Rattle.writer.specs.Inner.{SectorBegins, Pasted};
 use levels::Run;
 
@@ -93,7 +92,8 @@ fn frames(
     out: &mut [u8],
 ) -> Run
     requires { ⌜ (now v ≡ levelTable) × ((now m ≡ tableOf 0) × ((now u ≡ tableOf 1) × ((now y ≡ syncTable) × (SectorBegins r (now bytes) (now out) × ((length (now s1) ≡ 186) × (length (now s2) ≡ 186)))))) ⌝ }
-    ensures { λ q. ⌜ Whole q (now (out .exit)) (sectorOf r (now (bytes .entry))) ⌝ }
+    ensures run { λ q. ⌜ q ≡ sectorOf r (now (bytes .entry)) .run ⌝ }
+    ensures laid { λ q. ⌜ now (out .exit) ≡ packed (sectorOf r (now (bytes .entry)) .halves) ⌝ }
 {
     let codes = codes();
     let mut run = r;
@@ -112,7 +112,8 @@ fn frames(
 // A sector from a running record.
 pub(crate) fn sector(r: Run, bytes: &[u8], out: &mut [u8]) -> Run
     requires { ⌜ SectorBegins r (now bytes) (now out) ⌝ }
-    ensures { λ q. ⌜ Whole q (now (out .exit)) (sectorOf r (now (bytes .entry))) ⌝ }
+    ensures run { λ q. ⌜ q ≡ sectorOf r (now (bytes .entry)) .run ⌝ }
+    ensures laid { λ q. ⌜ now (out .exit) ≡ packed (sectorOf r (now (bytes .entry)) .halves) ⌝ }
 {
     let m = annexg::main_table();
     let u = annexg::sub_table();
@@ -126,7 +127,8 @@ pub(crate) fn sector(r: Run, bytes: &[u8], out: &mut [u8]) -> Run
 // The closing code from a running record.
 pub(crate) fn closing(r: Run, out: &mut [u8]) -> Run
     requires { ⌜ Room r 32 × (length (now out) ≡ 4) ⌝ }
-    ensures { λ q. ⌜ Whole q (now (out .exit)) (closingOf r) ⌝ }
+    ensures run { λ q. ⌜ q ≡ closingOf r .run ⌝ }
+    ensures laid { λ q. ⌜ now (out .exit) ≡ packed (closingOf r .halves) ⌝ }
 {
     let y = annexg::sync_table();
     let v = levels::level_table();

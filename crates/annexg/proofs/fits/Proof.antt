@@ -1,20 +1,19 @@
 -- `annexg::fits` meets its contract. Assumes nothing.
-use borrow.Author.Tests.{ne-eqb, eq-eqb}
-use Rattle.annexg.specs.Read.{fitsOf}
+use mathlib.Core.Path.{ap}
+use mathlib.Core.Bool.{Bool, _&&_}
+use Prim.Native.Nat.{_/_}
+use lib.Dec.{eqb}
 use borrow.Author.Needs.{needs}
+use Rattle.annexg.specs.Read.{fitsOf}
 use Rattle.annexg.proofs.fits.Statement.{statement}
 use Rattle.annexg.proofs.fits.Tie as tie
-
-returns : tie.Need-returns
-unfolding fitsOf
-returns c = simp (ne-eqb _ _ (c .if1 .taken))
 
 agrees-with-requires : tie.Need-agrees-with-requires
 agrees-with-requires c κs = search needs
 
-returns-2 : tie.Need-returns-2
+returns : tie.Need-returns
 unfolding fitsOf
-returns-2 c = simp (eq-eqb _ _ (c .before .if1 .left)) (c .agrees-with .ensures)
+returns c = let a = c .before .args in ap (λ (b : Bool). eqb (a .e / 16) (a .w) && b) (c .agrees-with .ensures)
 
 pub fits-spec : {M : Type 1} → statement M
-fits-spec = tie.close (tie.spec returns agrees-with-requires returns-2)
+fits-spec = tie.close (tie.spec agrees-with-requires returns)

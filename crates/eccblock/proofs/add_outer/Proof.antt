@@ -5,7 +5,7 @@ use Prim.Native.Nat.{ℕ, _≤_, _-_}
 use lib.ListN.{length}
 use borrow.Author.Needs.{needs}
 use native.Mathlib.Omega.{arith}
-use Rattle.division.specs.Packed.{Beside}
+use Rattle.division.specs.Packed.{beside}
 use Rattle.eccblock.specs.Stages.{outerOf, Frames, Columns}
 use Rattle.eccblock.proofs.Staged.{columns-none, columns-more}
 use Rattle.eccblock.proofs.Outer.{outer-bytes}
@@ -14,7 +14,7 @@ use Rattle.eccblock.proofs.add_outer.Tie as tie
 
 abbrev Inv-loop : tie.InvT-loop
 Inv-loop m out₀ regs j₀ out j =
-    (j ≤ 172) × (length out ≡ 37856) × Beside 16 (outerOf out₀) 172 regs × ((main : List ℕ) (first info : ℕ) → Frames main first info 16 out₀ → Columns main first info j out)
+    (j ≤ 172) × (length out ≡ 37856) × (regs ≡ beside (outerOf out₀) 172) × ((main : List ℕ) (first info : ℕ) → Frames main first info 16 out₀ → Columns main first info j out)
 
 abbrev μ-loop : tie.MeasureT-loop
 μ-loop m out₀ regs j₀ out j = 172 - j

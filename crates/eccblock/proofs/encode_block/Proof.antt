@@ -1,7 +1,9 @@
 -- `eccblock::encode_block` meets its contract, case by case. Assumes nothing.
-use mathlib.Core.Path.{_∙_}
+use mathlib.Core.Path.{_≡_, _∙_}
+use native.Mathlib.Omega.{arith}
 use lib.ListN.{length}
-use Rattle.eccblock.proofs.Refusals.{main-length, buffer-length, not-sixteen, number-over, prohibited, none-applies, buffer-left, buffer-made}
+use Rattle.eccblock.specs.Encode.{encodeRefusal, encodeNumber}
+use Rattle.eccblock.proofs.Refusals.{main-length, buffer-length, not-sixteen, number-over, by-information, buffer-left, buffer-made}
 use borrow.Author.Needs.{needs}
 use Rattle.eccblock.proofs.encode_block.Statement.{statement}
 use Rattle.eccblock.proofs.encode_block.Tie as tie
@@ -10,31 +12,40 @@ returns : tie.Need-returns
 returns c =
     let a = c .before .before .before .args in
     let e = main-length (length (a .main .now)) (length (a .out .now)) (a .first) (a .info) (c .if1 .taken) in
-    (e, buffer-left (a .main .now) (a .first) (a .info) (a .out .now) 0 e)
+    (e, buffer-left (a .main .now) (a .first) (a .info) (a .out .now) 1 e (λ z. omega (arith, z)))
 
 returns-2 : tie.Need-returns-2
 returns-2 c =
     let a = c .before .before .before .before .args in
     let e = buffer-length (length (a .main .now)) (length (a .out .now)) (a .first) (a .info) (c .before .if1 .left) (c .if2 .taken) in
-    (e, buffer-left (a .main .now) (a .first) (a .info) (a .out .now) 0 e)
+    (e, buffer-left (a .main .now) (a .first) (a .info) (a .out .now) 1 e (λ z. omega (arith, z)))
 
 returns-3 : tie.Need-returns-3
 returns-3 c =
     let a = c .before .before .before .before .before .args in
     let e = not-sixteen (length (a .main .now)) (length (a .out .now)) (a .first) (a .info) (c .before .before .if1 .left) (c .before .if2 .left) (c .if3 .taken) in
-    (e, buffer-left (a .main .now) (a .first) (a .info) (a .out .now) 1 e)
+    (e, buffer-left (a .main .now) (a .first) (a .info) (a .out .now) 2 e (λ z. omega (arith, z)))
 
 returns-4 : tie.Need-returns-4
 returns-4 c =
     let a = c .before .before .before .before .before .before .args in
     let e = number-over (length (a .main .now)) (length (a .out .now)) (a .first) (a .info) (c .before .before .before .if1 .left) (c .before .before .if2 .left) (c .before .if3 .left) (c .if4 .taken) in
-    (e, buffer-left (a .main .now) (a .first) (a .info) (a .out .now) 1 e)
+    (e, buffer-left (a .main .now) (a .first) (a .info) (a .out .now) 2 e (λ z. omega (arith, z)))
+
+judge-information-requires : tie.Need-judge-information-requires
+judge-information-requires c κs = search needs
+
+encode-number-requires : tie.Need-encode-number-requires
+encode-number-requires c κs = search needs
 
 returns-5 : tie.Need-returns-5
 returns-5 c =
-    let a = c .before .before .before .before .before .before .before .args in
-    let e = prohibited (length (a .main .now)) (length (a .out .now)) (a .first) (a .info) (c .before .before .before .before .if1 .left) (c .before .before .before .if2 .left) (c .before .before .if3 .left) (c .before .if4 .left) (c .if5 .taken) in
-    (e, buffer-left (a .main .now) (a .first) (a .info) (a .out .now) 2 e)
+    let passed = c .before .before .before in
+    let a = passed .before .before .before .before .before .before .args in
+    let answer = c .before .before .judge-information in
+    let e : encodeNumber (answer .result) ≡ encodeRefusal (length (a .main .now)) (length (a .out .now)) (a .first) (a .info) =
+    answer .ensures ∙ by-information (length (a .main .now)) (length (a .out .now)) (a .first) (a .info) (passed .before .before .before .if1 .left) (passed .before .before .if2 .left) (passed .before .if3 .left) (passed .if4 .left) in
+    (e, buffer-left (a .main .now) (a .first) (a .info) (a .out .now) (encodeNumber (answer .result)) e (λ z. omega (arith, z, c .before .encode-number .ensures, c .if5 .taken)))
 
 fill-block-requires : tie.Need-fill-block-requires
 fill-block-requires c κs = search needs
@@ -44,9 +55,13 @@ same-length c = search needs
 
 returns-6 : tie.Need-returns-6
 returns-6 c =
-    let a = c .before .before .before .before .before .before .before .before .before .before .before .args in
-    let e = none-applies (length (a .main .now)) (length (a .out .now)) (a .first) (a .info) (c .before .before .before .before .before .before .before .before .if1 .left) (c .before .before .before .before .before .before .before .if2 .left) (c .before .before .before .before .before .before .if3 .left) (c .before .before .before .before .before .if4 .left) (c .before .before .before .before .if5 .left) in
-    (e, c .before .before .fill-block .ensures ∙ buffer-made (a .main .now) (a .first) (a .info) (a .out .now) e)
+    let judged = c .before .before .before .before in
+    let passed = judged .before .before .before in
+    let a = passed .before .before .before .before .before .before .args in
+    let answer = judged .before .before .judge-information in
+    let e : encodeNumber (answer .result) ≡ encodeRefusal (length (a .main .now)) (length (a .out .now)) (a .first) (a .info) =
+    answer .ensures ∙ by-information (length (a .main .now)) (length (a .out .now)) (a .first) (a .info) (passed .before .before .before .if1 .left) (passed .before .before .if2 .left) (passed .before .if3 .left) (passed .if4 .left) in
+    (e, c .before .before .fill-block .ensures ∙ buffer-made (a .main .now) (a .first) (a .info) (a .out .now) (encodeNumber (answer .result)) e (omega (arith, judged .before .encode-number .ensures, judged .if5 .left)))
 
 pub encode-block-spec : {M : Type 1} → statement M
 encode-block-spec =
@@ -56,6 +71,8 @@ encode-block-spec =
     returns-2
     returns-3
     returns-4
+    judge-information-requires
+    encode-number-requires
     returns-5
     fill-block-requires
     same-length

@@ -10,7 +10,7 @@ use Rattle.edc.proofs.edc_number.Statement.{statement}
 use Rattle.edc.proofs.edc_number.Tie as tie
 
 abbrev Inv-loop : tie.InvT-loop
-Inv-loop t xs s₀ i₀ s i = (i ≤ length xs) × (i % 4 ≡ 0) × (edcFrom s (drop i xs) ≡ edcFrom 0 xs)
+Inv-loop t xs s₀ i₀ s i = (i ≤ length xs) × (i % 4 ≡ 0) × (edcFrom s (drop i xs) ≡ edcFrom s₀ xs)
 
 abbrev μ-loop : tie.MeasureT-loop
 μ-loop t xs s₀ i₀ s i = length xs - i

@@ -1,4 +1,7 @@
 -- `edc::four_bytes` meets its contract. Assumes nothing.
+use mathlib.Core.Path.{_≡_}
+use mathlib.Core.List.{[], _∷_}
+use Prim.Native.Nat.{ℕ, _/_, _%_}
 use Rattle.edc.specs.Edc.{fourBytes}
 use borrow.Author.Needs.{needs}
 use Rattle.edc.proofs.four_bytes.Statement.{statement}
@@ -16,9 +19,16 @@ byte-requires-3 c κs = search needs
 byte-requires-4 : tie.Need-byte-requires-4
 byte-requires-4 c κs = search needs
 
-returns : tie.Need-returns
+four-built : (r a b c d : ℕ) → a ≡ r / 16777216 % 256 → b ≡ r / 65536 % 256 → c ≡ r / 256 % 256 → d ≡ r % 256 → a ∷ b ∷ c ∷ d ∷ [] ≡ fourBytes r
 unfolding fourBytes
-returns c = cc
+four-built r a b c d p q s t = cc
+
+returns : tie.Need-returns
+returns c =
+    let last = c .before in
+    let third = last .before in
+    let second = third .before in
+    four-built _ _ _ _ _ (second .byte .ensures) (third .byte2 .ensures) (last .byte3 .ensures) (c .byte4 .ensures)
 
 pub four-bytes-spec : {M : Type 1} → statement M
 four-bytes-spec =

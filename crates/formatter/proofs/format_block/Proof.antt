@@ -43,7 +43,7 @@ returns-2 c =
     let a = c .before .before .before .before .before .before .before .before .before .args in
     let e = c .before .before .before .encode-block in
     let p = number-passed (a .main .now) (a .first) (a .info) (a .out .now) _ (encodeNumber (e .result)) (c .before .before .before .before .before .before .if1 .left) (sym (c .before .before .before .before .before .block-room .ensures)) (e .ensures .0) in
-    (p, buffer-left (a .main .now) (a .first) (a .info) (a .out .now) (encodeNumber (e .result)) (λ z. c .if2 .taken (c .before .encode-number .ensures ∙ z)) p)
+    (p, buffer-left (a .main .now) (a .first) (a .info) (a .out .now) (encodeNumber (e .result)) (λ z. omega (arith, z, c .before .encode-number .ensures, c .if2 .taken)) p)
 
 slice-aggregate-write-block : tie.Need-slice-aggregate-write-block
 slice-aggregate-write-block c = search needs
@@ -61,7 +61,8 @@ returns-3 c =
     let l = c .before .before .before .before .before .before .before .before .before .before .before .if1 .left in
     let r = sym (c .before .before .before .before .before .before .before .before .before .before .block-room .ensures) in
     let p = number-passed (a .main .now) (a .first) (a .info) (a .out .now) _ (encodeNumber (e .result)) l r (e .ensures .0) in
-    let z : encodeNumber (e .result) ≡ 0 = sym (c .before .before .before .before .before .before .encode-number .ensures) ∙ c .before .before .before .before .before .if2 .left in
+    let passed = c .before .before .before .before .before in
+    let z : encodeNumber (e .result) ≡ 0 = omega (arith, passed .before .encode-number .ensures, passed .if2 .left) in
     let ok : Accepted (a .main .now) (a .first) (a .info) =
     record {
       bytes = bytes-of (a .main .now) (λ i h. omega (arith, c .before .before .before .before .before .before .before .before .before .before .before .before .before .shared-slice-known .given i));

@@ -45,7 +45,7 @@ read-indexed-requires c κs =
     (s .pre .0, s .pre .1, s .pre .2)
 
 cast-out : tie.Need-cast-out Inv-loop μ-loop
-cast-out c = omega (arith, c .read-indexed .ensures .1)
+cast-out c = omega arith
 
 slice-write-out : tie.Need-slice-write-out Inv-loop μ-loop
 slice-write-out c =
@@ -71,7 +71,7 @@ loop-again c =
     let place : l .loop .i + 2 * (l .loop .i / 91) + 2 ≡ halfOf (l .loop .i) = omega arith in
     let hw = c .before .before .half .ensures ∙ ap (halfAt xs) place in
     let hf = c .before .half2 .ensures ∙ ap (λ (n : ℕ). halfAt xs (n + 1)) place in
-    let hr = c .read-indexed .ensures .0 in
+    let hr = c .read-indexed .ensures in
     let inside : l .loop .i < length (l .loop .out) = omega (arith, l .loop .inv .1 .same, s .pre .4) in (
       omega arith,
       upto-more _ _ _ _ _ inside (byte-is xs (l .loop .i) _ _ _ hw hf hr) (l .loop .inv .1),

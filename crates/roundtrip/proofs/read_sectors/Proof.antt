@@ -100,8 +100,8 @@ loop-again c =
     let x : 2366 * l .k + 2366 ≡ 2366 * (l .k + 1) = omega arith in (
       omega arith,
       upto-put (readAt (s .args .stream .now)) (s .args .block .now) (l .block) (c .before .before .before .read-sector-with .last .1 .1 .1 .1 .1 .0) (2366 * l .k) 2366 (2366 * l .k + 2366 - 2366 * l .k) (2366 * (l .k + 1)) b (sym x) (omega (arith, lb))
-          (ap length (r .1) ∙ sector-length (s .args .stream .now) d (l .k) hk (s .pre .0) e o lo)
-          (λ i h. ap (λ (z : List ℕ). getD z i 0) (r .1) ∙ sector-bytes (s .args .stream .now) d (l .k) hk (s .pre .0) e o lo i h) (l .inv .1),
+          (ap length (r .1 .1) ∙ sector-length (s .args .stream .now) d (l .k) hk (s .pre .0) e o lo)
+          (λ i h. ap (λ (z : List ℕ). getD z i 0) (r .1 .1) ∙ sector-bytes (s .args .stream .now) d (l .k) hk (s .pre .0) e o lo i h) (l .inv .1),
       omega (arith, m .0, unknown-le (sectorPart (s .args .stream .now) (l .k)), l .inv .2),
       omega (arith, m .1, sync-le (sectorPart (s .args .stream .now) (l .k)), l .inv .3),
       omega (arith, m .0, sum-next unknownTally (s .args .stream .now) (l .k) hk, l .inv .4),

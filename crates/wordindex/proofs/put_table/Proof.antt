@@ -1,24 +1,43 @@
 -- `wordindex::put_table` meets its contract: the entries before k have taken their slots. Assumes nothing.
-use mathlib.Core.Path.{_≡_, refl}
-use Prim.Native.Nat.{_-_, _≤_}
+use mathlib.Core.Path.{_≡_}
+use mathlib.Core.List.{List}
+use Prim.Native.Nat.{ℕ, _-_, _<_, _≤_}
 use native.Mathlib.Omega.{arith}
-use lib.ListN.{length}
+use lib.ListN.{length, getD}
+use Rattle.annexg.specs.Read.{tableOf}
+use Rattle.annexg.proofs.Figure.{table-below}
 use Rattle.wordindex.specs.Index.{putFirst}
+use Rattle.wordindex.proofs.Index.{table-long}
 use Rattle.wordindex.proofs.IndexSteps.{none-put, more-put, all-put}
 use Rattle.wordindex.proofs.put_table.Statement.{statement}
 use Rattle.wordindex.proofs.put_table.Tie as tie
 
+-- the table es as it is lent
+short : (t : ℕ) (es : List ℕ) → (t < 2) × (es ≡ tableOf t) → length es ≤ 1024
+short t es lent = rw (lent .1) (table-long t (lent .0))
+
+below : (t : ℕ) (es : List ℕ) → (t < 2) × (es ≡ tableOf t) → (k : ℕ) → getD es k 0 < 1048576
+below t es lent k = rw (lent .1) (table-below t k)
+
 abbrev Inv-loop : tie.InvT-loop
-Inv-loop es x₀ k₀ x k = (k ≤ length es) × (x ≡ putFirst es k x₀)
+Inv-loop t es x₀ k₀ x k = (k ≤ length es) × (x ≡ putFirst t k x₀)
 
 abbrev μ-loop : tie.MeasureT-loop
-μ-loop es x₀ k₀ x k = length es - k
+μ-loop t es x₀ k₀ x k = length es - k
 
 loop-holds : tie.Need-loop-holds Inv-loop μ-loop
 loop-holds c = (omega arith, none-put _ _)
 
-cast-b : tie.Need-cast-b Inv-loop μ-loop
-cast-b c = omega arith
+mul-n : tie.Need-mul-n Inv-loop μ-loop
+mul-n c = omega (arith, c .before .before .before .pre .0)
+
+cast-n : tie.Need-cast-n Inv-loop μ-loop
+cast-n c = let start = c .before .before .before in omega (arith, short (start .args .t) (start .args .es .now) (start .pre))
+
+add-n : tie.Need-add-n Inv-loop μ-loop
+add-n c =
+    let start = c .before .before .before in
+    omega (arith, start .pre .0, short (start .args .t) (start .args .es .now) (start .pre))
 
 mul-put-entry : tie.Need-mul-put-entry Inv-loop μ-loop
 mul-put-entry c = omega arith
@@ -28,8 +47,9 @@ shared-slice-read-put-entry c = omega arith
 
 put-entry-requires : tie.Need-put-entry-requires Inv-loop μ-loop
 put-entry-requires c κs =
-    let l = c .before .before .before in
-    (omega (arith, l .before .before .pre .0), l .before .before .pre .1 (l .loop .k))
+    let turn = c .before .before .before in
+    let start = turn .before .before in
+    below (start .args .t) (start .args .es .now) (start .pre) (turn .loop .k)
 
 add-k : tie.Need-add-k Inv-loop μ-loop
 add-k c = omega arith
@@ -39,13 +59,17 @@ loop-less c = omega arith
 
 loop-again : tie.Need-loop-again Inv-loop μ-loop
 loop-again c =
-    let l = c .before .before .before .before in
-    (omega arith, more-put (l .before .before .args .es .now) (l .before .before .args .x .now) _ _ _ (l .loop .k) refl (l .loop .inv .1) (c .put-entry .ensures))
+    let turn = c .before .before .before .before in
+    let start = turn .before .before in
+    let a = start .args in
+    (omega arith, more-put (a .t) (a .es .now) (a .x .now) _ _ (turn .loop .k) (start .pre .1) (turn .loop .inv .1) (c .put-entry .ensures))
 
 returns : tie.Need-returns Inv-loop μ-loop
 returns c =
-    let a = c .before .before .before .args in
-    all-put (a .es .now) (a .x .now) _ (c .before .loop .k) (omega arith) (c .before .loop .inv .1)
+    let turn = c .before in
+    let start = turn .before .before in
+    let a = start .args in
+    all-put (a .t) (a .es .now) (a .x .now) _ (turn .loop .k) (start .pre .1) (omega arith) (turn .loop .inv .1)
 
 pub put-table-spec : {M : Type 1} → statement M
 put-table-spec =
@@ -54,7 +78,9 @@ put-table-spec =
     Inv-loop
     μ-loop
     loop-holds
-    cast-b
+    mul-n
+    cast-n
+    add-n
     mul-put-entry
     shared-slice-read-put-entry
     put-entry-requires

@@ -1,22 +1,23 @@
--- `wordindex::read_indexed` meets its contract: what a slot holds is what the search finds. Assumes nothing.
-use mathlib.Core.Path.{_≡_, sym, ap, _∙_}
+-- `wordindex::read_indexed` meets its contract: the search from the entry that the index names finds what it finds from the first. Assumes nothing.
+use mathlib.Core.Path.{_≡_, ap, _∙_}
 use mathlib.Core.Bool.{Bool}
 use mathlib.Core.List.{List}
-use Prim.Native.Nat.{ℕ, _+_, _*_, _/_, _%_}
+use Prim.Native.Nat.{ℕ}
 use lib.ListN.{getD}
-use Rattle.annexg.specs.Read.{readGiven, bothZero}
-use Rattle.wordindex.specs.Index.{slotOf, wordIndex, readingNumber}
+use Rattle.annexg.specs.Read.{readFrom, readWord, readingNumber, bothZero}
+use Rattle.wordindex.specs.Index.{slotOf, tableNo, entryNo, wordIndex}
 use Rattle.wordindex.proofs.Index.{index-reads}
-use native.Mathlib.Omega.{arith}
 use borrow.Author.Needs.{needs}
 use Rattle.wordindex.proofs.read_indexed.Statement.{statement}
 use Rattle.wordindex.proofs.read_indexed.Tie as tie
 
--- slot i of the index xs holds the word w
-found : (w f : ℕ) (z : Bool) (i : ℕ) (xs : List ℕ) → xs ≡ wordIndex → z ≡ bothZero f → i ≡ slotOf w z → getD xs i 0 / 256 ≡ 65536 + w → getD xs i 0 % 256 * 2 ≡ readingNumber (readGiven w (bothZero f))
-found w f z i xs hx hz hi e =
+-- slot i of the index xs named the entry where the search began, which gave the number r
+from-slot :
+    (w f i r : ℕ) (z : Bool) (xs : List ℕ) → xs ≡ wordIndex → z ≡ bothZero f → i ≡ slotOf w z
+    → r ≡ readingNumber (readFrom w z (tableNo (getD xs i 0)) (entryNo (getD xs i 0))) → r ≡ readingNumber (readWord w f)
+from-slot w f i r z xs hx hz hi hr =
     let h = hi ∙ ap (slotOf w) hz in
-    rw (hx, h) (ap readingNumber (sym (index-reads w (bothZero f) (rw (hx, h) at e))))
+    (rw (hx, h, hz) at hr) ∙ ap readingNumber (index-reads w f)
 
 both-zero-requires : tie.Need-both-zero-requires
 both-zero-requires c κs = search needs
@@ -24,31 +25,26 @@ both-zero-requires c κs = search needs
 slot-of-requires : tie.Need-slot-of-requires
 slot-of-requires c κs = search needs
 
-mul-v : tie.Need-mul-v
-mul-v c = search needs
+mul-n : tie.Need-mul-n
+mul-n c = search needs
 
-element-copy-out-v : tie.Need-element-copy-out-v
-element-copy-out-v c = search needs
+element-copy-out-n : tie.Need-element-copy-out-n
+element-copy-out-n c = search needs
 
-add-if1 : tie.Need-add-if1
-add-if1 c = search needs
+cast-search-from : tie.Need-cast-search-from
+cast-search-from c = search needs
 
-mul-result : tie.Need-mul-result
-mul-result c = search needs
+cast-search-from-2 : tie.Need-cast-search-from-2
+cast-search-from-2 c = search needs
+
+search-from-requires : tie.Need-search-from-requires
+search-from-requires c κs = search needs
 
 returns : tie.Need-returns
 returns c =
-    let r = found _ _ _ _ _ (c .before .before .before .before .pre .2) (c .before .before .before .both-zero .ensures) (c .before .before .slot-of .ensures .0) (c .if1 .taken) in
-    (r, omega arith)
-
-read-with-requires : tie.Need-read-with-requires
-read-with-requires c κs = search needs
-
-number-of-requires : tie.Need-number-of-requires
-number-of-requires c κs = search needs
-
-returns-2 : tie.Need-returns-2
-returns-2 c = (c .number-of .ensures .0 ∙ ap readingNumber (c .before .read-with .ensures), c .number-of .ensures .1)
+    let slot = c .before .before in
+    let start = slot .before .before in
+    from-slot (start .args .w) (start .args .f) _ _ _ _ (start .pre .2) (slot .before .both-zero .ensures) (slot .slot-of .ensures .0) (c .search-from .ensures)
 
 pub read-indexed-spec : {M : Type 1} → statement M
 read-indexed-spec =
@@ -56,11 +52,9 @@ read-indexed-spec =
     (tie.spec
     both-zero-requires
     slot-of-requires
-    mul-v
-    element-copy-out-v
-    add-if1
-    mul-result
-    returns
-    read-with-requires
-    number-of-requires
-    returns-2)
+    mul-n
+    element-copy-out-n
+    cast-search-from
+    cast-search-from-2
+    search-from-requires
+    returns)

@@ -11,11 +11,11 @@ mul-result c = search needs
 cast-result : tie.Need-cast-result
 cast-result c = search needs
 
-digit-requires : tie.Need-digit-requires
-digit-requires c κs = search needs
-
 mul-result-2 : tie.Need-mul-result-2
 mul-result-2 c = search needs
+
+digit-requires : tie.Need-digit-requires
+digit-requires c κs = search needs
 
 add-result : tie.Need-add-result
 add-result c = search needs
@@ -26,4 +26,4 @@ returns c = (omega arith, omega arith)
 
 pub slot-of-spec : {M : Type 1} → statement M
 slot-of-spec =
-    tie.close (tie.spec mul-result cast-result digit-requires mul-result-2 add-result returns)
+    tie.close (tie.spec mul-result cast-result mul-result-2 digit-requires add-result returns)

@@ -5,7 +5,6 @@ use Rattle.levels.specs.declared.Run.{Run}
 use Rattle.writer.proofs.Sound.{closing-opens, closing-refused, closing-done, closing-small, near, sound-room}
 use Rattle.writer.proofs.Told.{done, refused}
 use Rattle.streams.specs.Frames.{closingOf}
-use Rattle.frames.specs.Inner.{Whole}
 use borrow.Author.Needs.{needs}
 use Rattle.writer.proofs.close.Statement.{statement}
 use Rattle.writer.proofs.close.Tie as tie
@@ -36,18 +35,22 @@ record-of-requires : tie.Need-record-of-requires
 record-of-requires c κs =
     let w = c .before .before .before .before .before .before .before .before .before .args .w in
     let o = closing-opens w _ (sym (c .before .before .before .before .before .before .before .closing-refusal .ensures) ∙ done (c .before .before .before .before .before .before .before .closing-refusal .result) (c .before .before .before .before .before .before .match .keys1)) in
-    closing-small w _ (o .is) (c .before .before .closing .ensures .run ∙ ap (λ (z : Run). closingOf z .run) (c .before .before .before .before .run-of .ensures))
+    closing-small w _ (o .is) (c .before .before .closing .ensures .0 ∙ ap (λ (z : Run). closingOf z .run) (c .before .before .before .before .run-of .ensures))
 
 same-length : tie.Need-same-length
 same-length c = search needs
 
 returns-2 : tie.Need-returns-2
 returns-2 c =
-    let a = c .before .before .before .before .before .before .before .before .before .before .args in
-    let z = done (c .before .before .before .before .before .before .before .before .closing-refusal .result) (c .before .before .before .before .before .before .before .match .keys1) in
-    let d =
-    closing-done (a .w) (a .out .now) _ (c .before .before .before .before .before .before .before .before .closing-refusal .ensures) z _ _ (subst (λ (r : Run). Whole (c .before .before .before .closing .result) (c .before .before .before .closing .last .1 .0) (closingOf r)) (c .before .before .before .before .before .run-of .ensures) (c .before .before .before .closing .ensures)) in
-    (sym z ∙ c .before .before .before .before .before .before .before .before .closing-refusal .ensures, (c .record-of .ensures ∙ d .0, d .1))
+    let laid = c .before .before .before in
+    let run = laid .before .before in
+    let told = run .before .before in
+    let found = told .before in
+    let start = found .before .before in
+    let a = start .args in
+    let z = done (found .closing-refusal .result) (told .match .keys1) in
+    let d = closing-done (a .w) (a .out .now) _ (found .closing-refusal .ensures) z _ (run .run-of .ensures) _ _ (laid .closing .ensures) in
+    (sym z ∙ found .closing-refusal .ensures, (c .record-of .ensures ∙ d .0, d .1))
 
 pub close-spec : {M : Type 1} → statement M
 close-spec =

@@ -2,7 +2,6 @@ use mathlib.Core.Path.{sym, ap, subst, _∙_}
 use native.Mathlib.Omega.{arith}
 use Rattle.levels.specs.declared.Run.{Run}
 use Rattle.streams.specs.Frames.{sectorOf}
-use Rattle.frames.specs.Inner.{Whole}
 use Rattle.writer.specs.Inner.{SectorBegins}
 use Rattle.writer.proofs.Sound.{sector-opens, sector-begins, sector-refused, sector-done, sector-small, near}
 use Rattle.writer.proofs.Told.{done, refused}
@@ -43,19 +42,22 @@ record-of-requires : tie.Need-record-of-requires
 record-of-requires c κs =
     let a = c .before .before .before .before .before .before .before .before .before .before .before .args in
     let o = sector-opens (a .w) _ _ (sym (c .before .before .before .before .before .before .before .before .sector-refusal .ensures) ∙ done (c .before .before .before .before .before .before .before .before .sector-refusal .result) (c .before .before .before .before .before .before .before .match .keys1)) in
-    sector-small (a .w) (a .bytes .now) _ (o .is) (c .before .before .before .sector .ensures .run ∙ ap (λ (z : Run). sectorOf z (a .bytes .now) .run) (c .before .before .before .before .before .run-of .ensures))
+    sector-small (a .w) (a .bytes .now) _ (o .is) (c .before .before .before .sector .ensures .0 ∙ ap (λ (z : Run). sectorOf z (a .bytes .now) .run) (c .before .before .before .before .before .run-of .ensures))
 
 same-length : tie.Need-same-length
 same-length c = search needs
 
 returns-2 : tie.Need-returns-2
 returns-2 c =
-    let a = c .before .before .before .before .before .before .before .before .before .before .before .before .args in
-    let z = done (c .before .before .before .before .before .before .before .before .before .sector-refusal .result) (c .before .before .before .before .before .before .before .before .match .keys1) in
-    let d =
-    sector-done (a .w) (a .bytes .now) (a .out .now) _ (c .before .before .before .before .before .before .before .before .before .sector-refusal .ensures) z _ _
-    (subst (λ (r : Run). Whole (c .before .before .before .before .sector .result) (c .before .before .before .before .sector .last .1 .1 .0) (sectorOf r (a .bytes .now))) (c .before .before .before .before .before .before .run-of .ensures) (c .before .before .before .before .sector .ensures)) in
-    (sym z ∙ c .before .before .before .before .before .before .before .before .before .sector-refusal .ensures, (c .record-of .ensures ∙ d .0, d .1))
+    let laid = c .before .before .before .before in
+    let run = laid .before .before in
+    let told = run .before .before in
+    let found = told .before in
+    let start = found .before .before .before in
+    let a = start .args in
+    let z = done (found .sector-refusal .result) (told .match .keys1) in
+    let d = sector-done (a .w) (a .bytes .now) (a .out .now) _ (found .sector-refusal .ensures) z _ (run .run-of .ensures) _ _ (laid .sector .ensures) in
+    (sym z ∙ found .sector-refusal .ensures, (c .record-of .ensures ∙ d .0, d .1))
 
 pub write-sector-spec : {M : Type 1} → statement M
 write-sector-spec =

@@ -8,13 +8,13 @@ use Rattle.division.proofs.register.divide.Statement.{statement}
 use Rattle.division.proofs.register.divide.Tie as tie
 
 abbrev Inv-loop : tie.InvT-loop
-Inv-loop m d high₀ low₀ i₀ high low i = (i ≤ length d) × Divided m d i high low
+Inv-loop m d p high₀ low₀ i₀ high low i = (i ≤ length d) × Divided p d i high low
 
 abbrev μ-loop : tie.MeasureT-loop
-μ-loop m d high₀ low₀ i₀ high low i = length d - i
+μ-loop m d p high₀ low₀ i₀ high low i = length d - i
 
 loop-holds : tie.Need-loop-holds Inv-loop μ-loop
-loop-holds c = (omega arith, divided-none (c .before .args .m .now) (c .before .args .d .now))
+loop-holds c = (omega arith, divided-none (c .before .args .p) (c .before .args .d .now))
 
 shared-slice-read-entry : tie.Need-shared-slice-read-entry Inv-loop μ-loop
 shared-slice-read-entry c = omega arith
@@ -55,15 +55,15 @@ loop-again c =
     let l = c .before .before .before .before .before .before .before .loop in
     let e = c .before .before .before .before .entry in (
       omega arith,
-      divided-more (s .args .m .now) (s .args .d .now) (l .i) (l .high) (l .low) (getD (s .args .d .now) (l .i) 0) (e .result) (c .before .before .moved-high .result) (c .moved-low .result)
-          (omega arith) refl (e .ensures) (c .before .before .moved-high .ensures) (c .moved-low .ensures) (l .inv .1),
+      divided-more (s .args .p) (s .args .m .now) (s .args .d .now) (l .i) (l .high) (l .low) (getD (s .args .d .now) (l .i) 0) (e .result) (c .before .before .moved-high .result) (c .moved-low .result)
+          (s .pre .0) (s .pre .1) (omega arith) refl (e .ensures) (c .before .before .moved-high .ensures) (c .moved-low .ensures) (l .inv .1),
     )
 
 returns : tie.Need-returns Inv-loop μ-loop
-returns c p le e =
+returns c =
     let s = c .before .before .before in
     let l = c .before .loop in
-    let w = divided-all (s .args .m .now) (s .args .d .now) (l .i) (l .high) (l .low) (omega arith) (l .inv .1) p le e in
+    let w = divided-all (s .args .p) (s .args .d .now) (l .i) (l .high) (l .low) (omega arith) (l .inv .1) in
     (w .first, w .second)
 
 pub divide-spec : {M : Type 1} → statement M

@@ -8,13 +8,13 @@ use Rattle.division.proofs.register.shift_row.Statement.{statement}
 use Rattle.division.proofs.register.shift_row.Tie as tie
 
 abbrev Inv-loop : tie.InvT-loop
-Inv-loop m row regs₀ j₀ regs j = (j ≤ length row) × Shifting m row regs₀ regs j
+Inv-loop m row regs₀ j₀ regs j = (j ≤ length row) × Shifting row regs₀ regs j
 
 abbrev μ-loop : tie.MeasureT-loop
 μ-loop m row regs₀ j₀ regs j = length row - j
 
 loop-holds : tie.Need-loop-holds Inv-loop μ-loop
-loop-holds c = (omega arith, shifting-none (c .before .before .args .m .now) (c .before .before .args .row .now) (c .before .before .args .regs .now))
+loop-holds c = (omega arith, shifting-none (c .before .before .args .row .now) (c .before .before .args .regs .now))
 
 mul-a : tie.Need-mul-a Inv-loop μ-loop
 mul-a c = omega arith
@@ -85,10 +85,11 @@ loop-again : tie.Need-loop-again Inv-loop μ-loop
 loop-again c =
     let s = c .before .before .before .before .before .before .before .before .before .before .before .before in
     let l = c .before .before .before .before .before .before .before .before .before .loop in
-    let e = c .before .before .before .before .entry in (
+    let e = c .before .before .before .before .entry in
+    let fits = c .before .before .before .before .before .before .before .slice-known2 .given in (
       omega arith,
       shifting-more (s .args .m .now) (s .args .row .now) (s .args .regs .now) (l .regs) (l .j) (getD (l .regs) (2 * l .j) 0) (getD (l .regs) (2 * l .j + 1) 0) (e .result)
-          (c .before .before .moved-high .result) (c .moved-low .result) (s .pre) (omega arith) refl refl (e .ensures) (c .before .before .moved-high .ensures) (c .moved-low .ensures) (l .inv .1),
+          (c .before .before .moved-high .result) (c .moved-low .result) (s .pre .0) (s .pre .1) (omega arith) (omega (arith, fits (2 * l .j))) (omega (arith, fits (2 * l .j + 1))) refl refl (e .ensures) (c .before .before .moved-high .ensures) (c .moved-low .ensures) (l .inv .1),
     )
 
 same-length : tie.Need-same-length Inv-loop μ-loop
@@ -98,7 +99,7 @@ returns : tie.Need-returns Inv-loop μ-loop
 returns c =
     let s = c .before .before .before .before in
     let l = c .before .loop in
-    shifting-all (s .args .m .now) (s .args .row .now) (s .args .regs .now) (l .regs) (l .j) (omega arith) (l .inv .1)
+    shifting-all (s .args .row .now) (s .args .regs .now) (l .regs) (l .j) (s .pre .1) (omega arith) (l .inv .1)
 
 pub shift-row-spec : {M : Type 1} → statement M
 shift-row-spec =

@@ -1,7 +1,7 @@
 -- `readers::chamanzil_read_block` meets its contract. Assumes nothing.
 use mathlib.Core.Path.{ap, _∙_}
 use lib.ListN.{length}
-use Rattle.roundtrip.specs.BlockReader.{blockReadAnswer, blockReadBlock, blockReadMain, blockReadNumber}
+use Rattle.roundtrip.specs.BlockReader.{blockReadAnswer, blockReadBlock, blockReadMain, blockReadRefusal}
 use Rattle.roundtrip.specs.declared.BlockRead.{BlockRead}
 use Rattle.ffi.specs.Readers.{blockReport}
 use Rattle.ffi.proofs.Reports.{number-refused, left-as-was, number-is, filled}
@@ -14,7 +14,7 @@ returns c =
     let s = c .before .before .before .before .before .args in
     let q = s .report .now in
     let h = c .if1 .taken in (
-      number-refused 8 (blockReadNumber (blockReadAnswer (s .stream .now) (length (s .block .now)) (length (s .main .now)))) q h,
+      number-refused 8 (blockReadRefusal (s .stream .now) (length (s .block .now)) (length (s .main .now))) q h,
       (
         left-as-was 8 q (blockReadBlock (s .stream .now) (s .block .now) (length (s .main .now))) (s .block .now) h,
         (
@@ -51,11 +51,11 @@ returns-2 c =
     let q = s .report .now in
     let l = c .before .before .before .before .before .before .before .before .before .before .before .before .if1 .left in
     let e = c .before .before .before .before .before .before .before .before .before .read-block .ensures in (
-      number-is 8 (blockReadNumber (blockReadAnswer (s .stream .now) (length (s .block .now)) (length (s .main .now)))) _ q l (c .block-read-number .ensures ∙ ap blockReadNumber (e .0)),
+      number-is 8 (blockReadRefusal (s .stream .now) (length (s .block .now)) (length (s .main .now))) _ q l (c .block-read-number .ensures ∙ e .1 .0),
       (
-        filled 8 q (blockReadBlock (s .stream .now) (s .block .now) (length (s .main .now))) (s .block .now) _ l (e .1),
+        filled 8 q (blockReadBlock (s .stream .now) (s .block .now) (length (s .main .now))) (s .block .now) _ l (e .1 .1 .1 .0),
         (
-          filled 8 q (blockReadMain (s .stream .now) (length (s .block .now)) (s .main .now)) (s .main .now) _ l (e .2),
+          filled 8 q (blockReadMain (s .stream .now) (length (s .block .now)) (s .main .now)) (s .main .now) _ l (e .1 .1 .1 .1),
           filled 8 q (blockReport (blockReadAnswer (s .stream .now) (length (s .block .now)) (length (s .main .now))) q) q _ l (c .before .before .before .lay-block .ensures ∙ ap (λ (a : BlockRead). blockReport a q) (e .0)),
         ),
       ),

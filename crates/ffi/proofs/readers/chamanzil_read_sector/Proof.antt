@@ -1,7 +1,7 @@
 -- `readers::chamanzil_read_sector` meets its contract. Assumes nothing.
 use mathlib.Core.Path.{ap, _∙_}
 use lib.ListN.{length}
-use Rattle.reader.specs.Sector.{sectorAnswer, sectorAfter, sectorNumber}
+use Rattle.reader.specs.Sector.{sectorAnswer, sectorAfter, sectorReadRefusal}
 use Rattle.reader.specs.declared.SectorRead.{SectorRead}
 use Rattle.ffi.specs.Readers.{sectorReport}
 use Rattle.ffi.proofs.Reports.{number-refused, left-as-was, number-is, filled}
@@ -14,7 +14,7 @@ returns c =
     let s = c .before .before .before .before .args in
     let q = s .report .now in
     let h = c .if1 .taken in (
-      number-refused 2 (sectorNumber (sectorAnswer (s .stream .now) (length (s .out .now)))) q h,
+      number-refused 2 (sectorReadRefusal (s .stream .now) (length (s .out .now))) q h,
       (
         left-as-was 2 q (sectorAfter (s .stream .now) (s .out .now)) (s .out .now) h,
         left-as-was 2 q (sectorReport (sectorAnswer (s .stream .now) (length (s .out .now))) q) q h,
@@ -45,9 +45,9 @@ returns-2 c =
     let q = s .report .now in
     let l = c .before .before .before .before .before .before .before .before .before .if1 .left in
     let e = c .before .before .before .before .before .before .before .read-sector .ensures in (
-      number-is 2 (sectorNumber (sectorAnswer (s .stream .now) (length (s .out .now)))) _ q l (c .sector-number .ensures ∙ ap sectorNumber (e .0)),
+      number-is 2 (sectorReadRefusal (s .stream .now) (length (s .out .now))) _ q l (c .sector-number .ensures ∙ e .1 .0),
       (
-        filled 2 q (sectorAfter (s .stream .now) (s .out .now)) (s .out .now) _ l (e .1),
+        filled 2 q (sectorAfter (s .stream .now) (s .out .now)) (s .out .now) _ l (e .1 .1),
         filled 2 q (sectorReport (sectorAnswer (s .stream .now) (length (s .out .now))) q) q _ l (c .before .before .before .lay-sector .ensures ∙ ap (λ (a : SectorRead). sectorReport a q) (e .0)),
       ),
     )

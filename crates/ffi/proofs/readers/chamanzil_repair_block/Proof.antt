@@ -1,7 +1,7 @@
 -- `readers::chamanzil_repair_block` meets its contract. Assumes nothing.
 use mathlib.Core.Path.{ap, _∙_}
 use lib.ListN.{length}
-use Rattle.repairer.specs.Answer.{repairAnswer, blockAfter, mainAfter, repairNumber}
+use Rattle.repairer.specs.Answer.{repairAnswer, blockAfter, mainAfter, repairRefusal}
 use Rattle.repairer.specs.declared.Repaired.{Repaired}
 use Rattle.ffi.specs.Readers.{repairReport}
 use Rattle.ffi.proofs.Reports.{number-refused, left-as-was, number-is, filled}
@@ -14,7 +14,7 @@ returns c =
     let s = c .before .before .before .before .args in
     let q = s .report .now in
     let h = c .if1 .taken in (
-      number-refused 6 (repairNumber (repairAnswer (s .block .now) (length (s .main .now)))) q h,
+      number-refused 6 (repairRefusal (s .block .now) (length (s .main .now))) q h,
       (
         left-as-was 6 q (blockAfter (s .block .now) (length (s .main .now))) (s .block .now) h,
         (
@@ -51,11 +51,11 @@ returns-2 c =
     let q = s .report .now in
     let l = c .before .before .before .before .before .before .before .before .before .before .before .before .if1 .left in
     let e = c .before .before .before .before .before .before .before .before .before .repair-block .ensures in (
-      number-is 6 (repairNumber (repairAnswer (s .block .now) (length (s .main .now)))) _ q l (c .repair-number .ensures ∙ ap repairNumber (e .0)),
+      number-is 6 (repairRefusal (s .block .now) (length (s .main .now))) _ q l (c .repair-number .ensures ∙ e .1 .0),
       (
-        filled 6 q (blockAfter (s .block .now) (length (s .main .now))) (s .block .now) _ l (e .1),
+        filled 6 q (blockAfter (s .block .now) (length (s .main .now))) (s .block .now) _ l (e .1 .1 .1 .0),
         (
-          filled 6 q (mainAfter (s .block .now) (s .main .now)) (s .main .now) _ l (e .2),
+          filled 6 q (mainAfter (s .block .now) (s .main .now)) (s .main .now) _ l (e .1 .1 .1 .1),
           filled 6 q (repairReport (repairAnswer (s .block .now) (length (s .main .now))) q) q _ l (c .before .before .before .lay-repair .ensures ∙ ap (λ (a : Repaired). repairReport a q) (e .0)),
         ),
       ),

@@ -1,6 +1,6 @@
 -- `words::chamanzil_read_word` meets its contract. Assumes nothing.
 use mathlib.Core.Path.{ap, _∙_}
-use Rattle.ffi.specs.Answers.{readingNumber}
+use Rattle.annexg.specs.Read.{readingNumber}
 use borrow.Author.Needs.{needs}
 use Rattle.ffi.proofs.words.chamanzil_read_word.Statement.{statement}
 use Rattle.ffi.proofs.words.chamanzil_read_word.Tie as tie

@@ -80,7 +80,7 @@ returns c =
     let v = c .before .loop .inv in
     let a = c .before .before .before .before .before .before .before .before .before .before .before .before .before in
     let s = shows-opened (a .args .r) (a .args .n) _ _ _ _ (synced (a .args .r) (a .args .n) false _ (a .args .s1 .now) _ (c .before .before .before .before .before .before .before .before .lay-sync .ensures .0) (c .before .before .before .before .before .before .before .before .lay-sync .ensures .1) (omega (arith, a .pre .1 .1 .1 .1 .one))) (synced (a .args .r) (a .args .n) true _ (a .args .s2 .now) _ (c .before .before .before .before .lay-sync2 .ensures .0) (c .before .before .before .before .lay-sync2 .ensures .1) (omega (arith, a .pre .1 .1 .1 .1 .two))) in
-    filled-all _ _ _ _ _ _ (a .args .bytes .now) (c .before .loop .i) _ (omega arith) (a .pre .1 .1 .1 .1 .bytes) s (v .1 .1 .1)
+    filled-all _ _ _ _ _ _ (a .args .bytes .now) (c .before .loop .i) _ (omega arith) (a .pre .1 .1 .1 .1 .bytes) (v .1 .0) (v .1 .1 .0) s (v .1 .1 .1)
 
 pub fill-spec : {M : Type 1} → statement M
 fill-spec =

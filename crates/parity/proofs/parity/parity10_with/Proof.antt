@@ -7,8 +7,8 @@ use lib.ListN.{length, take}
 use Rattle.lists.specs.Bytes.{Bytes}
 use Rattle.codes.specs.Parity.{parity}
 use Rattle.codes.proofs.Division.{ten-roots, parity-length, parity-bytes}
-use Rattle.parity.specs.Unpacked.{unpacked}
-use Rattle.parity.proofs.Unpacked.{unpacked-register}
+use Rattle.division.specs.Unpacked.{unpacked}
+use Rattle.division.proofs.Unpacked.{unpacked-register}
 use borrow.Author.Needs.{needs}
 use Rattle.parity.proofs.parity.parity10_with.Statement.{statement}
 use Rattle.parity.proofs.parity.parity10_with.Tie as tie
@@ -23,7 +23,7 @@ returns : tie.Need-returns
 returns c =
     let s = c .before .before .before in
     let d : List ℕ = s .args .d .now in
-    let e = c .before .divide .ensures 10 (omega arith) (s .pre) in
+    let e = c .before .divide .ensures in
     let b : Bytes (parity 10 d) = parity-bytes 10 ten-roots d in
     let n : length (parity 10 d) ≡ 10 = parity-length 10 ten-roots d in
     c .unpack10 .ensures ∙ ap₂ (λ (h l : ℕ). take 10 (unpacked h l)) (e .0) (e .1) ∙ unpacked-register 10 (parity 10 d) b n (omega arith)

@@ -1,6 +1,6 @@
 -- `parity::unpack10` meets its contract. Assumes nothing.
 use Rattle.lists.specs.Fill.{tabulateFrom}
-use Rattle.parity.specs.Unpacked.{byteOf, unpacked}
+use Rattle.division.specs.Unpacked.{byteOf, unpacked}
 use borrow.Author.Needs.{needs}
 use Rattle.parity.proofs.parity.unpack10.Statement.{statement}
 use Rattle.parity.proofs.parity.unpack10.Tie as tie

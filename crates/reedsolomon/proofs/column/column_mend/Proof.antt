@@ -1,8 +1,7 @@
 -- `column::column_mend` meets its contract. Assumes nothing.
-use mathlib.Core.Path.{_≡_, refl, sym, ap, ap₂, _∙_, subst}
-use mathlib.Core.List.{List}
-use Prim.Native.Nat.{ℕ, _+_, _-_, _<_, _≤_}
-use lib.ListN.{length, getD, take}
+use mathlib.Core.Path.{_≡_, sym}
+use Prim.Native.Nat.{_<_}
+use lib.ListN.{length, take}
 use lib.Seq.{length-take-le, getD-take}
 use native.Mathlib.Omega.{arith}
 use borrow.Author.Needs.{needs}
@@ -16,16 +15,12 @@ slice-aggregate-mend : tie.Need-slice-aggregate-mend
 slice-aggregate-mend c = search needs
 
 array-share-prefix-at : tie.Need-array-share-prefix-at
-array-share-prefix-at c =
-    let s = c .before .before in
-    let n : length (s .args .p .at) ≡ 8 = search needs in
-    omega (arith, s .pre .1)
+array-share-prefix-at c = c .before .before .pre .1
 
 slice-aggregate-mend-2 : tie.Need-slice-aggregate-mend-2
 slice-aggregate-mend-2 c =
     let s = c .before .before .before in
-    let n : length (s .args .p .at) ≡ 8 = search needs in
-    sym (length-take-le (s .args .p .count) (s .args .p .at) (omega (arith, s .pre .1)))
+    sym (length-take-le (s .args .p .count) (s .args .p .at) (s .pre .1))
 
 slice-aggregate-mend-3 : tie.Need-slice-aggregate-mend-3
 slice-aggregate-mend-3 c = search needs
@@ -36,10 +31,9 @@ slice-aggregate-mend-4 c = search needs
 mend-requires : tie.Need-mend-requires
 mend-requires c κs =
     let s = c .before .before .before .before .before in
-    let a : length (s .args .p .at) ≡ 8 = search needs in
     let e : length (s .args .t3) ≡ 16 = search needs in
     let m : length (s .args .w) ≡ 208 = search needs in
-    let k : length (take (s .args .p .count) (s .args .p .at)) ≡ s .args .p .count = length-take-le (s .args .p .count) (s .args .p .at) (omega (arith, s .pre .1)) in
+    let k : length (take (s .args .p .count) (s .args .p .at)) ≡ s .args .p .count = length-take-le (s .args .p .count) (s .args .p .at) (s .pre .1) in
     (s .pre .0, omega arith, e, λ j l. let h : j < s .args .p .count = omega (arith, l, k) in omega (arith, getD-take (s .args .p .count) (s .args .p .at) j 0 h, s .pre .2 j h))
 
 returns : tie.Need-returns

@@ -1,37 +1,36 @@
--- `column::column_syndromes` meets its contract. Assumes nothing.
-use mathlib.Core.Path.{ap, _∙_}
+-- `column::column_syndromes` meets its contract: the syndromes of what is left of a column are its own. Assumes nothing.
+use mathlib.Core.Path.{_≡_, _∙_}
 use mathlib.Core.List.{List}
 use Prim.Native.Nat.{ℕ}
-use Rattle.lists.specs.Fill.{tabulate}
-use Rattle.codes.specs.Word.{syndrome}
-use Rattle.parity.proofs.Unpacked.{unpacked-take}
+use native.Mathlib.Omega.{arith}
+use lib.ListN.{length, getD}
+use mir.Val.{Fits}
+use mir.Syntax.{w8}
+use Rattle.lists.specs.Bytes.{Bytes}
+use Rattle.lists.proofs.Bytes.{bytes-of}
+use Rattle.codes.proofs.Division.{sixteen-roots}
+use Rattle.reedsolomon.proofs.Left.{syndromes-left}
 use borrow.Author.Needs.{needs}
 use Rattle.reedsolomon.proofs.column.column_syndromes.Statement.{statement}
 use Rattle.reedsolomon.proofs.column.column_syndromes.Tie as tie
 
-unpack-requires : tie.Need-unpack-requires
-unpack-requires c κs = search needs
+slice-aggregate-remainder-of : tie.Need-slice-aggregate-remainder-of
+slice-aggregate-remainder-of c = search needs
 
-slice-aggregate-syndromes-into : tie.Need-slice-aggregate-syndromes-into
-slice-aggregate-syndromes-into c = search needs
+remainder-of-requires : tie.Need-remainder-of-requires
+remainder-of-requires c κs = search needs
 
-slice-aggregate-syndromes-into-2 : tie.Need-slice-aggregate-syndromes-into-2
-slice-aggregate-syndromes-into-2 c = search needs
-
-syndromes-into-requires : tie.Need-syndromes-into-requires
-syndromes-into-requires c κs = search needs
+syndromes16-requires : tie.Need-syndromes16-requires
+syndromes16-requires c κs = search needs
 
 returns : tie.Need-returns
 returns c =
-    let s = c .before .before .before .before .before in
-    c .before .syndromes-into .ensures ∙ ap (λ (b : List ℕ). tabulate (syndrome b) 16) (c .before .before .before .before .unpack .ensures ∙ unpacked-take (s .args .x .high) (s .args .x .low))
+    let s = c .before .before .before in
+    let w : List ℕ = s .args .t3 in
+    let size : length w ≡ 208 = search needs in
+    let bytes : Bytes w = bytes-of w (λ i l. let f : Fits w8 (getD w i 0) = search needs in omega arith) in
+    let x = c .before .remainder-of in
+    c .syndromes16 .ensures ∙ syndromes-left 16 sixteen-roots (omega arith) w bytes (omega arith) (x .result .high) (x .result .low) (x .ensures .0) (x .ensures .1)
 
 pub column-syndromes-spec : {M : Type 1} → statement M
-column-syndromes-spec =
-    tie.close
-    (tie.spec
-    unpack-requires
-    slice-aggregate-syndromes-into
-    slice-aggregate-syndromes-into-2
-    syndromes-into-requires
-    returns)
+column-syndromes-spec = tie.close (tie.spec slice-aggregate-remainder-of remainder-of-requires syndromes16-requires returns)

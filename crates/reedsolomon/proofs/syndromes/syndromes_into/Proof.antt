@@ -1,13 +1,11 @@
 -- `syndromes::syndromes_into` meets its contract. Assumes nothing.
-use mathlib.Core.Path.{_≡_, refl, sym, ap, ap₂, _∙_, subst}
-use mathlib.Core.List.{List, [], _∷_, _++_}
-use Prim.Native.Nat.{ℕ, _+_, _-_, _*_, _<_, _≤_}
-use lib.ListN.{length, getD, take, drop}
-use Rattle.field.specs.Field.{add, mul, pow, inverse}
+use mathlib.Core.Path.{_≡_, refl, ap, _∙_}
+use Prim.Native.Nat.{_-_, _≤_}
+use lib.ListN.{length}
+use Rattle.field.specs.Field.{pow}
 use Rattle.lists.proofs.Fill.{Upto, upto-none, upto-more, upto-all}
 use Rattle.codes.specs.Word.{valueAt, syndrome}
 use native.Mathlib.Omega.{arith}
-use borrow.Author.Needs.{needs}
 use Rattle.reedsolomon.proofs.syndromes.syndromes_into.Statement.{statement}
 use Rattle.reedsolomon.proofs.syndromes.syndromes_into.Tie as tie
 use Rattle.reedsolomon.proofs.syndromes.syndromes_into.Reads as reads

@@ -1,13 +1,11 @@
 -- `syndromes::value_of` meets its contract: Horner's rule, byte by byte. Assumes nothing.
-use mathlib.Core.Path.{_≡_, refl, sym, ap, ap₂, _∙_}
-use mathlib.Core.List.{List}
-use Prim.Native.Nat.{ℕ, _+_, _-_, _<_, _≤_}
-use lib.ListN.{length, getD, drop}
-use Rattle.field.specs.Field.{add, mul, pow}
+use mathlib.Core.Path.{_≡_, refl, sym, _∙_}
+use Prim.Native.Nat.{_-_, _≤_}
+use lib.ListN.{length, drop}
+use Rattle.field.specs.Field.{add}
 use Rattle.codes.specs.Word.{valueFrom, valueAt}
 use Rattle.codes.proofs.Words.{valueFrom-next, valueFrom-end}
 use native.Mathlib.Omega.{arith}
-use borrow.Author.Needs.{needs}
 use Rattle.reedsolomon.proofs.syndromes.value_of.Statement.{statement}
 use Rattle.reedsolomon.proofs.syndromes.value_of.Tie as tie
 use Rattle.reedsolomon.proofs.syndromes.value_of.Reads as reads

@@ -2,18 +2,18 @@
 use mathlib.Core.Path.{_≡_, sym, ap, _∙_}
 use Prim.Native.Nat.{ℕ, _≤_, _-_, _*_}
 use native.Mathlib.Omega.{arith}
-use Rattle.repairer.proofs.DivisionLaws.{Divided, divided-none, divided-size, row-length, divided-more, divided-all}
+use Rattle.repairer.proofs.DivisionLaws.{Divided, divided-none, divided-size, row-length, divided-more}
 use Rattle.repairer.proofs.columns.divide_columns.Statement.{statement}
 use Rattle.repairer.proofs.columns.divide_columns.Tie as tie
 
 abbrev Inv-loop : tie.InvT-loop
-Inv-loop m b left₀ i₀ left i = (i ≤ 208) × Divided b i left
+Inv-loop m b regs₀ i₀ regs i = (i ≤ 192) × Divided b i regs
 
 abbrev μ-loop : tie.MeasureT-loop
-μ-loop m b left₀ i₀ left i = 208 - i
+μ-loop m b regs₀ i₀ regs i = 192 - i
 
 loop-holds : tie.Need-loop-holds Inv-loop μ-loop
-loop-holds c = (omega arith, divided-none _)
+loop-holds c = (omega arith, divided-none (c .before .args .b .now))
 
 recording-row-requires : tie.Need-recording-row-requires Inv-loop μ-loop
 recording-row-requires c κs = omega arith
@@ -41,7 +41,7 @@ shift-row-requires c κs =
     let l = c .before .before .before .before in
     let s = l .before .before in
     let q = c .before .before .recording-row .ensures in
-    divided-size _ _ _ (l .loop .inv .1) ∙ sym (ap (λ (n : ℕ). 2 * n) (row-length (s .args .m .now) (s .args .b .now) (l .loop .left) (l .loop .left) (l .loop .i) _ (s .pre .1) (omega arith) (q .0) (q .1)))
+    (s .pre .0, divided-size _ _ _ (l .loop .inv .1) ∙ sym (ap (λ (n : ℕ). 2 * n) (row-length (s .args .b .now) (l .loop .regs) (l .loop .regs) (l .loop .i) _ (s .pre .1) (omega arith) (q .0) (q .1))))
 
 add-i : tie.Need-add-i Inv-loop μ-loop
 add-i c = omega arith
@@ -54,13 +54,14 @@ loop-again c =
     let l = c .before .before .before .before .before .before in
     let s = l .before .before in
     let q = c .before .before .before .before .recording-row .ensures in
-    (omega arith, divided-more (s .args .m .now) (s .args .b .now) (l .loop .left) _ (l .loop .i) _ (s .pre .1) (omega arith) (q .0) (q .1) (s .pre .0) (c .before .shift-row .ensures) (l .loop .inv .1))
+    (omega arith, divided-more (s .args .b .now) (l .loop .regs) _ (l .loop .i) _ (s .pre .1) (omega arith) (q .0) (q .1) (l .loop .inv .1) (c .before .shift-row .ensures))
 
 returns : tie.Need-returns Inv-loop μ-loop
+unfolding Divided
 returns c =
     let l = c .before .loop in
-    let e : l .i ≡ 208 = omega arith in
-    divided-all _ _ (rw e at (l .inv .1))
+    let e : l .i ≡ 192 = omega arith in
+    rw e at (l .inv .1)
 
 pub divide-columns-spec : {M : Type 1} → statement M
 divide-columns-spec =

@@ -1,7 +1,7 @@
-use mathlib.Core.Path.{refl, sym, _∙_}
+use mathlib.Core.Path.{refl}
 use mathlib.Core.Bool.{true, false}
-use borrow.Author.Tests.{eq-eqb, ne-eqb, le-leb, lt-leb, not-true, not-false}
-use Rattle.writer.proofs.Sound.{sector-by}
+use borrow.Author.Tests.{eq-eqb, ne-eqb}
+use Rattle.writer.proofs.Sound.{sector-by, sector-by-state}
 use borrow.Author.Needs.{needs}
 use Rattle.writer.proofs.refusal.sector_refusal.Statement.{statement}
 use Rattle.writer.proofs.refusal.sector_refusal.Tie as tie
@@ -15,31 +15,20 @@ returns-2 c = let a = c .before .before .args in sector-by (a .w) (a .from) (a .
 is-sound-requires : tie.Need-is-sound-requires
 is-sound-requires c κs = search needs
 
+is-ended-requires : tie.Need-is-ended-requires
+is-ended-requires c κs = search needs
+
+state-refusal-requires : tie.Need-state-refusal-requires
+state-refusal-requires c κs = search needs
+
 returns-3 : tie.Need-returns-3
 returns-3 c =
-    let a = c .before .before .before .before .args in
-    sector-by (a .w) (a .from) (a .to) true true false _ _ (eq-eqb _ _ (c .before .before .before .if1 .left)) (eq-eqb _ _ (c .before .before .if2 .left))
-    (sym (c .before .is-sound .ensures) ∙ not-true (c .before .is-sound .result) (c .if3 .taken)) refl refl
-
-returns-4 : tie.Need-returns-4
-returns-4 c =
-    let a = c .before .before .before .before .before .args in
-    sector-by (a .w) (a .from) (a .to) true true true true _ (eq-eqb _ _ (c .before .before .before .before .if1 .left)) (eq-eqb _ _ (c .before .before .before .if2 .left))
-    (sym (c .before .before .is-sound .ensures) ∙ not-false (c .before .before .is-sound .result) (c .before .if3 .left)) (c .if4 .taken) refl
-
-returns-5 : tie.Need-returns-5
-returns-5 c =
-    let a = c .before .before .before .before .before .before .before .args in
-    sector-by (a .w) (a .from) (a .to) true true true false true (eq-eqb _ _ (c .before .before .before .before .before .before .if1 .left)) (eq-eqb _ _ (c .before .before .before .before .before .if2 .left))
-    (sym (c .before .before .before .before .is-sound .ensures) ∙ not-false (c .before .before .before .before .is-sound .result) (c .before .before .before .if3 .left)) (c .before .before .if4 .left) (le-leb _ _ (c .if5 .taken))
-
-returns-6 : tie.Need-returns-6
-returns-6 c =
-    let a = c .before .before .before .before .before .before .before .args in
-    sector-by (a .w) (a .from) (a .to) true true true false false (eq-eqb _ _ (c .before .before .before .before .before .before .if1 .left)) (eq-eqb _ _ (c .before .before .before .before .before .if2 .left))
-    (sym (c .before .before .before .before .is-sound .ensures) ∙ not-false (c .before .before .before .before .is-sound .result) (c .before .before .before .if3 .left)) (c .before .before .if4 .left) (lt-leb _ _ (c .if5 .left))
+    let sounded = c .before .before in
+    let measured = sounded .before in
+    let a = measured .before .before .args in
+    sector-by-state (a .w) (a .from) (a .to) _ _ _ (measured .before .if1 .left) (measured .if2 .left) (sounded .is-sound .ensures) (c .before .is-ended .ensures) (c .state-refusal .ensures)
 
 pub sector-refusal-spec : {M : Type 1} → statement M
 sector-refusal-spec =
     tie.close
-    (tie.spec returns returns-2 is-sound-requires returns-3 returns-4 returns-5 returns-6)
+    (tie.spec returns returns-2 is-sound-requires is-ended-requires state-refusal-requires returns-3)

@@ -24,7 +24,7 @@ returns c =
     let a = c .before .before .before .before .before .before .before .before .before .before in
     let l = c .before .before .before .lay-sync .ensures in
     let p = synced (a .args .r) 0 false _ (a .args .out .now) _ (l .0) (l .1) (omega (arith, a .pre .1)) in
-    record { run = p .run; bytes = sym (take-all 4 _ (omega (arith, a .pre .1))) ∙ p .bytes }
+    (p .run, sym (take-all 4 _ (omega (arith, a .pre .1))) ∙ p .bytes)
 
 pub closing-spec : {M : Type 1} → statement M
 closing-spec = tie.close (tie.spec sync-table-requires level-table-requires lay-sync-requires same-length returns)

@@ -35,27 +35,29 @@ part-frame-start : tie.Need-part-frame-start Inv-loop μ-loop
 part-frame-start c = omega arith
 
 part-frame-end : tie.Need-part-frame-end Inv-loop μ-loop
-part-frame-end c = omega (arith, c .before .before .before .before .before .before .before .before .before .pre .1 .1 .1 .1 .0 .bytes)
+part-frame-end c = let start = c .before .before .before .before .before .before .before .before .before in omega (arith, start .pre .1 .1 .1 .1 .0 .bytes)
 
 frame-requires : tie.Need-frame-requires Inv-loop μ-loop
 frame-requires c κs =
-    let a = c .before .before .before .before .before .before .before .before .before .before .before .before in
-    let g = a .pre .1 .1 .1 .1 .0 in
-    let v = c .before .before .before .before .before .before .loop .inv in
-    let k = c .before .before .before .before .before .before .loop .k in
-    let bs = a .args .bytes .now in (
-      a .pre .0,
+    let turn = c .before .before .before .before .before .before in
+    let start = turn .before .before .before .before .before .before in
+    let asked = start .pre in
+    let begins = asked .1 .1 .1 .1 .0 in
+    let v = turn .loop .inv in
+    let k = turn .loop .k in
+    let bs = start .args .bytes .now in (
+      asked .0,
       (
-        a .pre .1 .0,
+        asked .1 .0,
         (
-          a .pre .1 .1 .0,
+          asked .1 .1 .0,
           (
-            a .pre .1 .1 .1 .0,
+            asked .1 .1 .1 .0,
             record {
-              state = sector-state (a .args .r) (c .before .before .before .before .before .before .loop .run) bs _ (c .before .before .before .before .before .before .loop .out) g k (omega arith) (v .1 .1 .1 .1) (bytes-of _ (λ j h. omega (arith, c .before .before .before .before .before .before .before .before .before .before .before .shared-slice-known .given j)));
+              state = sector-state (start .args .r) (turn .loop .run) bs _ (turn .loop .out) begins k (omega arith) (v .1 .1 .1 .1) (bytes-of _ (λ j h. omega (arith, turn .before .before .before .before .before .shared-slice-known .given j)));
               code = c .before .before .before .code-of .ensures .1;
-              room = sector-room (a .args .r) (c .before .before .before .before .before .before .loop .run) bs _ (c .before .before .before .before .before .before .loop .out) g k (omega arith) (v .1 .1 .1 .1);
-              bytes = part-length bs k (g .bytes) (omega arith);
+              room = sector-room (start .args .r) (turn .loop .run) bs _ (turn .loop .out) begins k (omega arith) (v .1 .1 .1 .1);
+              bytes = part-length bs k (begins .bytes) (omega arith);
               one = v .1 .0;
               two = v .1 .1 .0;
             },
@@ -100,16 +102,19 @@ loop-again c =
     )
 
 same-length : tie.Need-same-length Inv-loop μ-loop
-same-length c = omega (arith, c .before .before .before .before .before .before .before .pre .1 .1 .1 .1 .1 .0)
+same-length c = let start = c .before .before .before .before .before .before .before in omega (arith, start .pre .1 .1 .1 .1 .1 .0)
 
 same-length-2 : tie.Need-same-length-2 Inv-loop μ-loop
-same-length-2 c = omega (arith, c .before .before .before .before .before .before .before .pre .1 .1 .1 .1 .1 .1)
+same-length-2 c = let start = c .before .before .before .before .before .before .before in omega (arith, start .pre .1 .1 .1 .1 .1 .1)
 
 same-length-3 : tie.Need-same-length-3 Inv-loop μ-loop
-same-length-3 c = omega (arith, c .before .before .before .before .before .before .before .pre .1 .1 .1 .1 .0 .whole)
+same-length-3 c = let start = c .before .before .before .before .before .before .before in omega (arith, start .pre .1 .1 .1 .1 .0 .whole)
 
 returns : tie.Need-returns Inv-loop μ-loop
-returns c = let v = c .before .loop .inv in laying-all (c .before .before .before .before .before .before .before .args .r) _ (c .before .before .before .before .before .before .before .args .bytes .now) _ (c .before .loop .k) (omega arith) (v .1 .1 .1 .0) (v .1 .1 .1 .1)
+returns c =
+    let start = c .before .before .before .before .before .before .before in
+    let v = c .before .loop .inv in
+    laying-all (start .args .r) _ (start .args .bytes .now) _ (c .before .loop .k) (omega arith) (v .1 .1 .1 .0) (v .1 .1 .1 .1)
 
 pub frames-spec : {M : Type 1} → statement M
 frames-spec =

@@ -1,0 +1,101 @@
+-- `row::correct_row_from` meets its contract: the syndromes decide, of the row and of the mended row. Assumes nothing.
+use mathlib.Core.Path.{_≡_, sym, _∙_, subst}
+use mathlib.Core.List.{List}
+use Prim.Native.Nat.{ℕ}
+use native.Mathlib.Omega.{arith}
+use lib.ListN.{length, getD, take}
+use mir.Val.{Fits}
+use mir.Syntax.{w8}
+use Rattle.lists.specs.Bytes.{Bytes}
+use Rattle.lists.proofs.Bytes.{bytes-of}
+use Rattle.codes.specs.Decoding.{at, Places}
+use Rattle.codes.proofs.Decision.{clean, corrected, uncorrectable, places-below}
+use borrow.Author.Needs.{needs}
+use Rattle.reedsolomon.proofs.row.correct_row_from.Statement.{statement}
+use Rattle.reedsolomon.proofs.row.correct_row_from.Tie as tie
+use Rattle.reedsolomon.proofs.row.correct_row_from.Reads as reads
+use Rattle.reedsolomon.proofs.row.correct_row_from.Lts as lts
+use Rattle.reedsolomon.proofs.row.row_mend.Reads as row-mend-reads
+use Rattle.reedsolomon.proofs.row.row_search.Reads as row-search-reads
+use Rattle.reedsolomon.proofs.row.row_syndromes.Reads as row-syndromes-reads
+use Rattle.reedsolomon.proofs.syndromes.all_zero.Reads as all-zero-reads
+
+abbrev Start : Type 0
+Start = lts.Start (all-zero-reads.Asked, all-zero-reads.Learnt, row-search-reads.Asked, row-search-reads.Learnt, row-mend-reads.Asked, row-mend-reads.Learnt, row-syndromes-reads.Asked, row-syndromes-reads.Learnt) reads.Pre reads.Post
+
+size : (s : Start) → length (s .args .r .bytes) ≡ 182
+size s = search needs
+
+bytes : (s : Start) → Bytes (s .args .r .bytes)
+bytes s = bytes-of (s .args .r .bytes) (λ i l. let f : Fits w8 (getD (s .args .r .bytes) i 0) = search needs in omega arith)
+
+slice-aggregate-all-zero : tie.Need-slice-aggregate-all-zero
+slice-aggregate-all-zero c = search needs
+
+all-zero-requires : tie.Need-all-zero-requires
+all-zero-requires c κs = search needs
+
+returns : tie.Need-returns
+returns c =
+    let start = c .before .before .before .before in
+    clean 10 5 (start .args .r .bytes) (bytes start) (omega (arith, size start)) (omega arith) (start .args .t3) (start .pre .2)
+    (sym (c .before .all-zero .ensures) ∙ c .if1 .taken)
+
+row-search-requires : tie.Need-row-search-requires
+row-search-requires c κs = search needs
+
+row-mend-requires : tie.Need-row-mend-requires
+row-mend-requires c κs =
+    let start = c .before .before .before .before .before in
+    let found = c .row-search in
+    (start .pre .0, found .ensures .0, places-below (at (start .args .t3)) _ 182 (found .result .at) (found .result .count) (found .ensures .1) (found .ensures .0))
+
+row-syndromes-requires : tie.Need-row-syndromes-requires
+row-syndromes-requires c κs = search needs
+
+slice-aggregate-all-zero-2 : tie.Need-slice-aggregate-all-zero-2
+slice-aggregate-all-zero-2 c = search needs
+
+all-zero-requires-2 : tie.Need-all-zero-requires-2
+all-zero-requires-2 c κs = search needs
+
+returns-2 : tie.Need-returns-2
+returns-2 c =
+    let decided = c .before .before .before .before .before .before in
+    let start = decided .before .before .before .before in
+    let mend = c .before .before .before .before .row-mend in
+    let near : List ℕ = mend .result in
+    let again = c .before .before .before .row-syndromes in
+    let found = c .before .before .before .before .before .row-search in
+    corrected 10 5 (start .args .r .bytes) (bytes start) (omega (arith, size start)) (omega arith) (start .args .t3) (start .pre .2)
+    (take (found .result .count) (found .result .at)) (subst (λ (k : ℕ). Places (at (start .args .t3)) 5 k (take (found .result .count) (found .result .at))) (sym (size start)) (found .ensures .1))
+    near (mend .ensures) (again .result) (again .ensures) (sym (decided .before .all-zero .ensures) ∙ decided .if1 .left)
+    (sym (c .before .all-zero2 .ensures) ∙ c .if2 .taken)
+
+returns-3 : tie.Need-returns-3
+returns-3 c =
+    let decided = c .before .before .before .before .before .before in
+    let start = decided .before .before .before .before in
+    let mend = c .before .before .before .before .row-mend in
+    let near : List ℕ = mend .result in
+    let again = c .before .before .before .row-syndromes in
+    let found = c .before .before .before .before .before .row-search in
+    uncorrectable 10 5 (start .args .r .bytes) (bytes start) (omega (arith, size start)) (omega arith) (start .args .t3) (start .pre .2)
+    (take (found .result .count) (found .result .at)) (subst (λ (k : ℕ). Places (at (start .args .t3)) 5 k (take (found .result .count) (found .result .at))) (sym (size start)) (found .ensures .1))
+    near (mend .ensures) (again .result) (again .ensures) (sym (decided .before .all-zero .ensures) ∙ decided .if1 .left)
+    (sym (c .before .all-zero2 .ensures) ∙ c .if2 .left)
+
+pub correct-row-from-spec : {M : Type 1} → statement M
+correct-row-from-spec =
+    tie.close
+    (tie.spec
+    slice-aggregate-all-zero
+    all-zero-requires
+    returns
+    row-search-requires
+    row-mend-requires
+    row-syndromes-requires
+    slice-aggregate-all-zero-2
+    all-zero-requires-2
+    returns-2
+    returns-3)
