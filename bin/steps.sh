@@ -1,10 +1,12 @@
 # For scripts that run long steps: sourced, not run. A step is a process group of its own; whoever ends the script ends the step with it.
 set -m
 step_log=$(mktemp)
-step_group=
 
 end_step() {
-    [ -z "$step_group" ] || { kill -TERM -- "-$step_group" && wait "$step_group"; } 2> /dev/null || true
+    local group
+    for group in $(jobs -p); do
+        { kill -TERM -- "-$group" && wait "$group"; } 2> /dev/null || true
+    done
     rm -f "$step_log"
 }
 trap end_step EXIT
@@ -40,9 +42,7 @@ step() {
     local name=$1 filter=$2 status=0
     shift 2
     { "$@" 2>&1 | tee "$step_log" | $filter; } < /dev/null &
-    step_group=$!
-    wait "$step_group" || status=$?
-    step_group=
+    wait $! || status=$?
     [ "$status" = 0 ] || {
         printf '\nFAILED: %s (status %s). The end of its log:\n' "$name" "$status"
         tail -n 25 "$step_log"
