@@ -3,12 +3,12 @@
 use mathlib.Core.Path.{_≡_, refl, sym, ap, ap₂, subst, _∙_}
 use mathlib.Core.Bool.{Bool, true, false, not, cond, _&&_, _||_}
 use mathlib.Core.List.{List, [], _∷_, _++_, map, append-assoc, append-nil}
-use Prim.Native.Nat.{ℕ, zero, suc, _-_, _/_}
+use Prim.Native.Nat.{ℕ, zero, suc, _≤_, _<_}
 use native.Mathlib.Omega.{arith}
-use borrow.Author.Tests.{ne-eqb}
+use borrow.Author.Tests.{ne-eqb, ltb-true, ltb-false, lt-ltb, le-ltb}
 use lib.Dec.{T, eqb, ltb, leb}
 use Rattle.lists.proofs.Test.{and-left, and-right}
-use Rattle.annexg.specs.Read.{entryOf}
+use Rattle.annexg.specs.Read.{wordOf}
 use Rattle.annexg.specs.Runs.{inside}
 use Rattle.annexg.specs.Sync.{syncEnd, codeFor}
 use Rattle.channel.specs.Bits.{bitsAll}
@@ -120,7 +120,6 @@ swap-lower t b = by (oneLower t) (swapIn (t .one) b) (swapIn (t .two) b) refl re
     by false false true p q = sym q
     by false false false p q = sym q
 
--- both words are permitted where a swap is possible
 small-allowed : (s l b : ℕ) → ltb b 88 ≡ true → T (allowed s l (byte b) true)
 small-allowed s l b e = rw e tt
 
@@ -129,21 +128,15 @@ no-swap s h =
     let n = suc (suc (suc (suc (suc s)))) in
     rw (ne-eqb n 1 (λ e. omega arith), ne-eqb n 4 (λ e. omega arith)) at h
 
--- the test that the choice of the other State's word stands on
-other-allowed : (s l b v : ℕ) (x : Bool) → x ≡ false → T (swaps s && inside 2 10 (joinRun l (entryOf 0 b v / 16)))
-    → T (x || (swaps s && inside 2 10 (joinRun l (cond x (entryOf 1 b (s - 1)) (entryOf 0 b v) / 16))))
-other-allowed s l b v true e h = tt
-other-allowed s l b v false e h = h
-
-swap-allowed :
-    (s l b : ℕ) → ltb b 88 ≡ false → T (swaps s && (inside 2 10 (joinRun l (entryOf 0 b 0 / 16)) && inside 2 10 (joinRun l (entryOf 0 b 3 / 16))))
-    → T (allowed s l (byte b) (eqb s 4)) × T (allowed s l (byte b) (eqb s 1))
-swap-allowed zero l b e h = absurd h
-swap-allowed (suc zero) l b e h = (tt, other-allowed 1 l b 3 (ltb b 88) e (and-right (inside 2 10 (joinRun l (entryOf 0 b 0 / 16))) (inside 2 10 (joinRun l (entryOf 0 b 3 / 16))) h))
-swap-allowed (suc (suc zero)) l b e h = absurd h
-swap-allowed (suc (suc (suc zero))) l b e h = absurd h
-swap-allowed (suc (suc (suc (suc zero)))) l b e h = (other-allowed 4 l b 0 (ltb b 88) e (and-left (inside 2 10 (joinRun l (entryOf 0 b 0 / 16))) (inside 2 10 (joinRun l (entryOf 0 b 3 / 16))) h), tt)
-swap-allowed (suc (suc (suc (suc (suc s))))) l b e h = absurd (no-swap s (and-left (swaps (suc (suc (suc (suc (suc s)))))) _ h))
+-- where a swap is possible both words are permitted, each as the choice that takes it
+swap-allowed : (s l b : ℕ) → ltb b 88 ≡ false → T (swapPossible s l b) → T (allowed s l (byte b) (eqb s 4)) × T (allowed s l (byte b) (eqb s 1))
+unfolding swapPossible
+swap-allowed zero l b e h = absurd (and-right (leb 88 b) _ h)
+swap-allowed (suc zero) l b e h = (tt, rw e (and-right (inside 2 10 (joinRun l (wordOf 0 b 0))) _ (and-right (leb 88 b) _ h)))
+swap-allowed (suc (suc zero)) l b e h = absurd (and-right (leb 88 b) _ h)
+swap-allowed (suc (suc (suc zero))) l b e h = absurd (and-right (leb 88 b) _ h)
+swap-allowed (suc (suc (suc (suc zero)))) l b e h = (rw e (and-left (inside 2 10 (joinRun l (wordOf 0 b 0))) _ (and-right (leb 88 b) _ h)), tt)
+swap-allowed (suc (suc (suc (suc (suc s))))) l b e h = absurd (no-swap s (and-left (swaps (suc (suc (suc (suc (suc s)))))) _ (and-right (leb 88 b) _ h)))
 
 -- both streams are laid over the items
 pub record Both (a : Run) (is : List Item) (t : Two) : Type 0 where
@@ -155,25 +148,37 @@ copied-laid :
     → Both a (is ++ (byte b ∷ [])) (copied m b c d)
 copied-laid a is m b c d h p q = record { first = laid-lay a is m (byte b) c h p; second = laid-lay a is m (byte b) d h q }
 
-swapped-laid : (a : Run) (is : List Item) (m : Stream) (b : ℕ) → Laid a is m → ltb b 88 ≡ false → swapIn m b ≡ true → Both a (is ++ (byte b ∷ [])) (copied m b (eqb (m .run .state) 4) (eqb (m .run .state) 1))
-unfolding swapPossible
-swapped-laid a is m b h e w =
-    let q = swap-allowed (m .run .state) (m .last) b e (and-right (leb 88 b) _ (subst T (sym w) tt)) in
-    copied-laid a is m b (eqb (m .run .state) 4) (eqb (m .run .state) 1) h (q .0) (q .1)
+-- what a step does with each kind of byte
+step-swap :
+    (t : Two) (b : ℕ) → 88 ≤ b → swapMade t b ≡ true → step t b ≡ copied (lower t) b (eqb (lower t .run .state) 4) (eqb (lower t .run .state) 1)
+unfolding step
+step-swap t b h e = rw (le-ltb, e)
+
+step-kept : (t : Two) (b : ℕ) → 88 ≤ b → swapMade t b ≡ false → step t b ≡ kept t b
+unfolding step
+step-kept t b h e = rw (le-ltb, e)
+
+step-small : (t : Two) (b : ℕ) → b < 88 → step t b ≡ copied (lower t) b false true
+unfolding step
+step-small t b h = rw lt-ltb
 
 pub step-laid : (a : Run) (is : List Item) (t : Two) (b : ℕ) → Both a is t → Both a (is ++ (byte b ∷ [])) (step t b)
-unfolding step
 step-laid a is t b h = by (ltb b 88) (swapMade t b) refl refl
   where
-    low : Laid a is (lower t)
+    m : Stream
+    m = lower t
+
+    low : Laid a is m
     low = lower-laid a is t (h .first) (h .second)
 
-    by : (x y : Bool) → ltb b 88 ≡ x → swapMade t b ≡ y
-        → Both a (is ++ (byte b ∷ []))
-        (cond x (copied (lower t) b false true) (cond y (copied (lower t) b (eqb (lower t .run .state) 4) (eqb (lower t .run .state) 1)) (kept t b)))
-    by true y p q = copied-laid a is (lower t) b false true low tt (small-allowed (lower t .run .state) (lower t .last) b p)
-    by false true p q = swapped-laid a is (lower t) b low p (sym (swap-lower t b) ∙ q)
-    by false false p q = record { first = laid-lay a is (t .one) (byte b) false (h .first) tt; second = laid-lay a is (t .two) (byte b) false (h .second) tt }
+    by : (x y : Bool) → ltb b 88 ≡ x → swapMade t b ≡ y → Both a (is ++ (byte b ∷ [])) (step t b)
+    by true y p q = rw (step-small t b (ltb-true b 88 p)) (copied-laid a is m b false true low tt (small-allowed (m .run .state) (m .last) b p))
+    by false true p q =
+        let both = swap-allowed (m .run .state) (m .last) b p (subst T (sym q ∙ swap-lower t b) tt) in
+        rw (step-swap t b (ltb-false b 88 p) q) (copied-laid a is m b (eqb (m .run .state) 4) (eqb (m .run .state) 1) low (both .0) (both .1))
+    by false false p q =
+        rw (step-kept t b (ltb-false b 88 p) q)
+        (record { first = laid-lay a is (t .one) (byte b) false (h .first) tt; second = laid-lay a is (t .two) (byte b) false (h .second) tt })
 
 pub steps-laid : (a : Run) (is : List Item) (t : Two) (bs : List ℕ) → Both a is t → Both a (is ++ map byte bs) (steps t bs)
 unfolding steps
