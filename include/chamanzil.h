@@ -7,7 +7,8 @@
  * written (no `const`) overlaps no other argument; nor does a record. What was written is all of a buffer or nothing: no call leaves a half-filled buffer.
  *
  * Answers. 0: done. 1 to 9: refused, by the numbers below, and then every buffer and record is as it was, except where a function says otherwise. Where
- * several numbers apply, the lowest is given, but 9 goes before 7 and 8. Where none applies, nothing is refused.
+ * several numbers apply, the lowest is given, but 9 goes before 7 and 8. Where none applies, nothing is refused. Every refusal is below 256; from 256 on are the
+ * outcomes of a call that was not refused.
  *
  * Threads. The functions keep no state, take no lock and allocate nothing: any number of threads may call them at once, on buffers of their own (a buffer that
  * is only read may be shared). A call needs less than 256 KiB of stack.
@@ -28,21 +29,28 @@ extern "C" {
 /* ---- lengths */
 
 enum {
-    CHAMANZIL_MAIN = 32768,       /* main data of a block: 16 sectors of 2,048 bytes */
-    CHAMANZIL_BLOCK = 37856,      /* an ECC Block in recording order: 208 rows of 182 bytes */
-    CHAMANZIL_SECTOR = 2366,      /* a sector of a block, before the channel: 13 rows */
-    CHAMANZIL_SECTOR_BITS = 4836, /* a sector of a stream: 26 Sync Frames of 186 bytes */
-    CHAMANZIL_SECTOR_READ = 4838, /* the same with the two bytes after it */
-    CHAMANZIL_CLOSING = 4,        /* the closing code */
-    CHAMANZIL_STREAM = 77380,     /* a block's stream: 16 sectors and the closing code */
-    CHAMANZIL_ROW = 182,          /* a row with its 10 parity bytes */
-    CHAMANZIL_COLUMN = 208,       /* a column with its 16 parity bytes */
-    CHAMANZIL_SECTOR_REPORT = 2,  /* numbers in a report: of a sector, */
-    CHAMANZIL_REPAIR_REPORT = 6,  /* of the repairer, */
-    CHAMANZIL_BLOCK_REPORT = 8    /* of the whole-block reader */
+    CHAMANZIL_SECTORS = 16,         /* sectors of a block */
+    CHAMANZIL_MAIN = 32768,         /* main data of a block: 16 sectors of 2,048 bytes */
+    CHAMANZIL_BLOCK = 37856,        /* an ECC Block in recording order: 208 rows of 182 bytes */
+    CHAMANZIL_SECTOR = 2366,        /* a sector of a block, before the channel: 13 rows */
+    CHAMANZIL_SECTOR_STREAM = 4836, /* a sector of a stream: 26 Sync Frames of 186 bytes */
+    CHAMANZIL_SECTOR_READ = 4838,   /* the same with the two bytes after it */
+    CHAMANZIL_CLOSING = 4,          /* the closing code */
+    CHAMANZIL_STREAM = 77380,       /* a block's stream: 16 sectors and the closing code */
+    CHAMANZIL_ROW_DATA = 172,       /* a row without its parity, */
+    CHAMANZIL_ROW_PARITY = 10,
+    CHAMANZIL_ROW = 182,            /* and with it */
+    CHAMANZIL_COLUMN_DATA = 192,    /* a column without its parity, */
+    CHAMANZIL_COLUMN_PARITY = 16,
+    CHAMANZIL_COLUMN = 208,         /* and with it */
+    CHAMANZIL_ID_BYTES = 4,         /* an ID, */
+    CHAMANZIL_IED_BYTES = 2,        /* and its IED */
+    CHAMANZIL_SECTOR_REPORT = 2,    /* numbers in a report: of a sector, */
+    CHAMANZIL_REPAIR_REPORT = 6,    /* of the repairer, */
+    CHAMANZIL_BLOCK_REPORT = 8      /* of the whole-block reader */
 };
 
-/* ---- answers */
+/* ---- done, and the refusals */
 
 enum {
     CHAMANZIL_DONE = 0,
@@ -54,11 +62,19 @@ enum {
     CHAMANZIL_EDC = 6,            /* a frame's EDC differs */
     CHAMANZIL_ENDED = 7,          /* a sector after the sixteenth, or anything after closing */
     CHAMANZIL_UNFINISHED = 8,     /* closing before the sixteenth sector */
-    CHAMANZIL_RECORD = 9,         /* a record that the writer never hands out */
-    CHAMANZIL_CORRECTED = 16,     /* a row or column was no code word and became the one near it */
-    CHAMANZIL_UNCORRECTABLE = 17, /* there is none near enough, and it stays as it was */
-    CHAMANZIL_UNKNOWN_WORD = 256  /* a Code Word that is in no table */
+    CHAMANZIL_RECORD = 9          /* a record that the writer never hands out */
 };
+
+/* ---- outcomes of a row or a column that was no code word, above every refusal */
+
+enum {
+    CHAMANZIL_CORRECTED = 256,    /* it became the code word near it */
+    CHAMANZIL_UNCORRECTABLE = 257 /* there is none near enough, and it stays as it was */
+};
+
+/* ---- what a Code Word is read as where it is in no table; every other reading is a byte, 0 to 255 */
+
+enum { CHAMANZIL_UNKNOWN_WORD = 256 };
 
 /* ---- from main data to a stream */
 
@@ -85,7 +101,7 @@ struct chamanzil_record {
  * as always. */
 void chamanzil_new_record(struct chamanzil_record *kept);
 
-/* A sector by the two-stream rule of clause 22. `bytes` has CHAMANZIL_SECTOR bytes (sector k of a block starts at byte 2366 k), `out` CHAMANZIL_SECTOR_BITS.
+/* A sector by the two-stream rule of clause 22. `bytes` has CHAMANZIL_SECTOR bytes (sector k of a block starts at byte 2366 k), `out` CHAMANZIL_SECTOR_STREAM.
  * 0, 1, 7 or 9. After 0 `out` holds the sector's code bits, eight to a byte, first bit highest, and `kept` the next record. After a refusal both are as they
  * were. */
 uint32_t chamanzil_write_sector(struct chamanzil_record *kept, const uint8_t *bytes, size_t bytes_len, uint8_t *out, size_t out_len);
@@ -115,13 +131,15 @@ uint32_t chamanzil_read_block(const uint8_t *stream, size_t stream_len, uint8_t 
 
 /* ---- rows and columns of a block */
 
-/* The 10 parity bytes of a row of 172 bytes, the 16 of a column of 192, and the 2 bytes of IED of an ID of 4. 0 or 1; `out` is as it was after 1. */
+/* The parity of a row: `word` has CHAMANZIL_ROW_DATA bytes, `out` CHAMANZIL_ROW_PARITY; of a column: CHAMANZIL_COLUMN_DATA and CHAMANZIL_COLUMN_PARITY; the IED
+ * of an ID: CHAMANZIL_ID_BYTES and CHAMANZIL_IED_BYTES. 0 or 1; `out` is as it was after 1. */
 uint32_t chamanzil_row_parity(const uint8_t *word, size_t word_len, uint8_t *out, size_t out_len);
 uint32_t chamanzil_column_parity(const uint8_t *word, size_t word_len, uint8_t *out, size_t out_len);
 uint32_t chamanzil_ied(const uint8_t *id, size_t id_len, uint8_t *out, size_t out_len);
 
 /* The repair in place of a row of CHAMANZIL_ROW bytes with at most five wrong, of a column of CHAMANZIL_COLUMN bytes with at most eight. 0: it was a code
- * word. 16: it became the one near it. 17: there is none near enough, and it is as it was. 1: another length, and it is as it was. */
+ * word. CHAMANZIL_CORRECTED: it became the one near it. CHAMANZIL_UNCORRECTABLE: there is none near enough, and it is as it was. 1: another length, and it is
+ * as it was. */
 uint32_t chamanzil_correct_row(uint8_t *row, size_t row_len);
 uint32_t chamanzil_correct_column(uint8_t *column, size_t column_len);
 
@@ -132,7 +150,7 @@ uint32_t chamanzil_read_word(uint16_t word, uint16_t following);
 
 /* 1 where a stream is no longer than CHAMANZIL_STREAM and has between its ONEs the runs of ZEROs that a block may have: 2 to 10, or the 13 of a SYNC Code at
  * its place; else 0. */
-uint32_t chamanzil_runs_hold(const uint8_t *stream, size_t stream_len);
+uint32_t chamanzil_zero_runs_hold(const uint8_t *stream, size_t stream_len);
 
 /* ---- the field of 256 elements, x^8 + x^4 + x^3 + x^2 + 1 */
 

@@ -29,13 +29,13 @@ static void format(uint32_t first, uint8_t info)
     chamanzil_new_record(&kept);
     expect(kept.state == 1 && kept.level == 0 && kept.dsv == 0 && kept.sectors == 0 && !kept.closed, "a new record");
     expect(chamanzil_encode_block(main_data, sizeof main_data, first, info, block, sizeof block) == CHAMANZIL_DONE, "encode_block");
-    for (k = 0; k < 16; k++) {
-        uint32_t answer = chamanzil_write_sector(&kept, block + k * CHAMANZIL_SECTOR, CHAMANZIL_SECTOR, stream + k * CHAMANZIL_SECTOR_BITS, CHAMANZIL_SECTOR_BITS);
+    for (k = 0; k < CHAMANZIL_SECTORS; k++) {
+        uint32_t answer = chamanzil_write_sector(&kept, block + k * CHAMANZIL_SECTOR, CHAMANZIL_SECTOR, stream + k * CHAMANZIL_SECTOR_STREAM, CHAMANZIL_SECTOR_STREAM);
         expect(answer == CHAMANZIL_DONE && kept.sectors == k + 1, "write_sector");
     }
-    expect(chamanzil_close(&kept, stream + 16 * CHAMANZIL_SECTOR_BITS, CHAMANZIL_CLOSING) == CHAMANZIL_DONE, "close");
-    expect(kept.sectors == 16 && kept.closed, "the record after closing");
-    expect(chamanzil_close(&kept, stream + 16 * CHAMANZIL_SECTOR_BITS, CHAMANZIL_CLOSING) == CHAMANZIL_ENDED, "closing twice");
+    expect(chamanzil_close(&kept, stream + CHAMANZIL_SECTORS * CHAMANZIL_SECTOR_STREAM, CHAMANZIL_CLOSING) == CHAMANZIL_DONE, "close");
+    expect(kept.sectors == CHAMANZIL_SECTORS && kept.closed, "the record after closing");
+    expect(chamanzil_close(&kept, stream + CHAMANZIL_SECTORS * CHAMANZIL_SECTOR_STREAM, CHAMANZIL_CLOSING) == CHAMANZIL_ENDED, "closing twice");
 }
 
 int main(void)
@@ -48,7 +48,7 @@ int main(void)
         main_data[i] = (uint8_t)(i * 7 + i / 256);
     }
     format(0x030000, 0x00);
-    expect(chamanzil_runs_hold(stream, sizeof stream) == 1, "the runs of ZEROs");
+    expect(chamanzil_zero_runs_hold(stream, sizeof stream) == 1, "the runs of ZEROs");
     expect(chamanzil_format_block(main_data, sizeof main_data, 0x030000, 0x00, whole, sizeof whole) == CHAMANZIL_DONE, "format_block");
     expect(memcmp(whole, stream, sizeof whole) == 0, "format_block is encode_block, write_sector and close");
 

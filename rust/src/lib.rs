@@ -24,7 +24,7 @@ use std::fmt;
 pub use refusal::Refusal;
 pub use words::{
     column_parity, correct_column, correct_row, ied, power, product, read_word, row_parity,
-    runs_hold, Outcome,
+    zero_runs_hold, Outcome,
 };
 
 /// Main data bytes of a block: 16 sectors of 2,048.
@@ -34,13 +34,31 @@ pub const BLOCK: usize = 37_856;
 /// Bytes of a sector of a block, before the channel: 13 rows.
 pub const SECTOR: usize = 2_366;
 /// Bytes of a sector of a stream: 26 Sync Frames of 186.
-pub const SECTOR_BITS: usize = 4_836;
+pub const SECTOR_STREAM: usize = 4_836;
 /// Bytes that the sector reader takes: a sector of a stream and the two bytes after it.
 pub const SECTOR_READ: usize = 4_838;
 /// Bytes of the closing code.
 pub const CLOSING: usize = 4;
 /// Bytes of a block's stream: 16 sectors and the closing code.
 pub const STREAM: usize = 77_380;
+/// Bytes of a row without its parity.
+pub const ROW_DATA: usize = 172;
+/// Bytes of a row's parity.
+pub const ROW_PARITY: usize = 10;
+/// Bytes of a row with its parity.
+pub const ROW: usize = 182;
+/// Bytes of a column without its parity.
+pub const COLUMN_DATA: usize = 192;
+/// Bytes of a column's parity.
+pub const COLUMN_PARITY: usize = 16;
+/// Bytes of a column with its parity.
+pub const COLUMN: usize = 208;
+/// Numbers in a report of [`slices::read_sector`].
+pub const SECTOR_REPORT: usize = 2;
+/// Numbers in a report of [`slices::repair_block`].
+pub const REPAIR_REPORT: usize = 6;
+/// Numbers in a report of [`slices::read_block`].
+pub const BLOCK_REPORT: usize = 8;
 
 /// A buffer of zeros on the heap.
 #[allow(clippy::unnecessary_box_returns)]
@@ -125,12 +143,12 @@ impl Default for Record {
 /// The writer (clause 22). A call takes it by value and hands back the next one; a refusal leaves the caller's own as it was.
 ///
 /// ```
-/// use chamanzil::{encode_block, format_block, Refusal, Writer, CLOSING, MAIN, SECTOR, SECTOR_BITS};
+/// use chamanzil::{encode_block, format_block, Refusal, Writer, CLOSING, MAIN, SECTOR, SECTOR_STREAM};
 /// let block = encode_block(&[0; MAIN], 0, 0)?;
 /// let mut writer = Writer::new();
 /// let mut stream = Vec::new();
 /// for sector in block.chunks_exact(SECTOR) {
-///     let mut out = [0; SECTOR_BITS];
+///     let mut out = [0; SECTOR_STREAM];
 ///     writer = writer.write_sector(sector.try_into().unwrap(), &mut out)?;
 ///     stream.extend_from_slice(&out);
 /// }
@@ -184,7 +202,7 @@ impl Writer {
     pub fn write_sector(
         self,
         bytes: &[u8; SECTOR],
-        out: &mut [u8; SECTOR_BITS],
+        out: &mut [u8; SECTOR_STREAM],
     ) -> Result<Self, Refusal> {
         let mut record = self.record;
         slices::write_sector(&mut record, bytes, out)?;
@@ -226,7 +244,7 @@ pub struct SectorRead {
 #[must_use]
 pub fn read_sector(stream: &[u8; SECTOR_READ]) -> SectorRead {
     let mut bytes = room();
-    let mut report = [0; 2];
+    let mut report = [0; SECTOR_REPORT];
     words::stated(slices::read_sector(stream, &mut bytes[..], &mut report));
     let [unknown, sync] = report;
     SectorRead {
@@ -274,7 +292,7 @@ pub struct Repaired {
 /// 4, 5 or 6, with the first frame that fails.
 pub fn repair_block(block: &mut [u8; BLOCK]) -> Result<Repaired, Refusal> {
     let mut main = room();
-    let mut report = [0; 6];
+    let mut report = [0; REPAIR_REPORT];
     slices::repair_block(block, &mut main[..], &mut report)?;
     let [first, changed, past_help, columns_changed, columns_past_help, _] = report;
     Ok(Repaired {
@@ -336,7 +354,7 @@ impl fmt::Display for BlockRead {
 pub fn read_block(stream: &[u8; STREAM]) -> Result<BlockRead, Refusal> {
     let mut block = room::<BLOCK>();
     let mut main = room();
-    let mut report = [0; 8];
+    let mut report = [0; BLOCK_REPORT];
     slices::read_block(stream, &mut block[..], &mut main[..], &mut report)?;
     let [first, changed, past_help, columns_changed, columns_past_help, unknown, sync, _] = report;
     Ok(BlockRead {

@@ -2,6 +2,11 @@
 //! number that a call leaves; programs use the safe functions.
 use crate::Record;
 
+/// What `chamanzil_correct_row` and `chamanzil_correct_column` answer of a word that was no code word, above every refusal: it became the code word near it,
+pub const CORRECTED: u32 = 256;
+/// or there is none near enough, and it stays.
+pub const UNCORRECTABLE: u32 = 257;
+
 extern "C" {
     pub fn chamanzil_product(a: u8, b: u8) -> u8;
     pub fn chamanzil_power(a: u8, n: u64) -> u8;
@@ -21,7 +26,7 @@ extern "C" {
     pub fn chamanzil_correct_row(row: *mut u8, row_len: usize) -> u32;
     pub fn chamanzil_correct_column(column: *mut u8, column_len: usize) -> u32;
     pub fn chamanzil_read_word(word: u16, following: u16) -> u32;
-    pub fn chamanzil_runs_hold(stream: *const u8, stream_len: usize) -> u32;
+    pub fn chamanzil_zero_runs_hold(stream: *const u8, stream_len: usize) -> u32;
     pub fn chamanzil_encode_block(
         main: *const u8,
         main_len: usize,

@@ -1,5 +1,5 @@
 use crate::refusal::answer;
-use crate::{raw, slices, Refusal};
+use crate::{raw, slices, Refusal, COLUMN, COLUMN_DATA, COLUMN_PARITY, ROW, ROW_DATA, ROW_PARITY};
 
 /// What became of a row or a column.
 #[derive(Clone, Copy, Debug, PartialEq, Eq, Hash)]
@@ -14,8 +14,8 @@ pub enum Outcome {
 
 pub(crate) fn outcome(number: u32) -> Result<Outcome, Refusal> {
     match number {
-        16 => Ok(Outcome::Corrected),
-        17 => Ok(Outcome::Uncorrectable),
+        raw::CORRECTED => Ok(Outcome::Corrected),
+        raw::UNCORRECTABLE => Ok(Outcome::Uncorrectable),
         other => answer(other, 0).map(|()| Outcome::Clean),
     }
 }
@@ -28,11 +28,11 @@ pub(crate) fn stated<T>(result: Result<T, Refusal>) -> T {
 /// The 10 parity bytes of a row (roots α⁰ to α⁹).
 ///
 /// ```
-/// assert_eq!(chamanzil::row_parity(&[0; 172]), [0; 10]);
+/// assert_eq!(chamanzil::row_parity(&[0; chamanzil::ROW_DATA]), [0; 10]);
 /// ```
 #[must_use]
-pub fn row_parity(word: &[u8; 172]) -> [u8; 10] {
-    let mut out = [0; 10];
+pub fn row_parity(word: &[u8; ROW_DATA]) -> [u8; ROW_PARITY] {
+    let mut out = [0; ROW_PARITY];
     stated(slices::row_parity(word, &mut out));
     out
 }
@@ -40,11 +40,11 @@ pub fn row_parity(word: &[u8; 172]) -> [u8; 10] {
 /// The 16 parity bytes of a column (roots α⁰ to α¹⁵).
 ///
 /// ```
-/// assert_eq!(chamanzil::column_parity(&[0; 192]), [0; 16]);
+/// assert_eq!(chamanzil::column_parity(&[0; chamanzil::COLUMN_DATA]), [0; 16]);
 /// ```
 #[must_use]
-pub fn column_parity(word: &[u8; 192]) -> [u8; 16] {
-    let mut out = [0; 16];
+pub fn column_parity(word: &[u8; COLUMN_DATA]) -> [u8; COLUMN_PARITY] {
+    let mut out = [0; COLUMN_PARITY];
     stated(slices::column_parity(word, &mut out));
     out
 }
@@ -71,7 +71,7 @@ pub fn ied(id: &[u8; 4]) -> [u8; 2] {
 /// assert_eq!(row, [0; 182]);
 /// assert_eq!(correct_row(&mut row), Outcome::Clean);
 /// ```
-pub fn correct_row(row: &mut [u8; 182]) -> Outcome {
+pub fn correct_row(row: &mut [u8; ROW]) -> Outcome {
     stated(slices::correct_row(row))
 }
 
@@ -84,7 +84,7 @@ pub fn correct_row(row: &mut [u8; 182]) -> Outcome {
 /// assert_eq!(correct_column(&mut column), Outcome::Corrected);
 /// assert_eq!(column, [0; 208]);
 /// ```
-pub fn correct_column(column: &mut [u8; 208]) -> Outcome {
+pub fn correct_column(column: &mut [u8; COLUMN]) -> Outcome {
     stated(slices::correct_column(column))
 }
 
@@ -105,13 +105,13 @@ pub fn read_word(word: u16, following: u16) -> Option<u8> {
 ///
 /// ```
 /// let stream = chamanzil::format_block(&[0; chamanzil::MAIN], 0, 0)?;
-/// assert!(chamanzil::runs_hold(&stream[..]));
-/// assert!(!chamanzil::runs_hold(&[0xFF, 0xFF]));
+/// assert!(chamanzil::zero_runs_hold(&stream[..]));
+/// assert!(!chamanzil::zero_runs_hold(&[0xFF, 0xFF]));
 /// # Ok::<(), chamanzil::Refusal>(())
 /// ```
 #[must_use]
-pub fn runs_hold(stream: &[u8]) -> bool {
-    unsafe { raw::chamanzil_runs_hold(stream.as_ptr(), stream.len()) == 1 }
+pub fn zero_runs_hold(stream: &[u8]) -> bool {
+    unsafe { raw::chamanzil_zero_runs_hold(stream.as_ptr(), stream.len()) == 1 }
 }
 
 /// The product of two elements of the field of 256, x⁸ + x⁴ + x³ + x² + 1.

@@ -4,7 +4,7 @@ mod common;
 
 use chamanzil::slices;
 use chamanzil::{Record, Refusal};
-use chamanzil::{BLOCK, CLOSING, MAIN, SECTOR, SECTOR_BITS, SECTOR_READ, STREAM};
+use chamanzil::{BLOCK, CLOSING, MAIN, SECTOR, SECTOR_READ, SECTOR_STREAM, STREAM};
 use common::Numbers;
 use std::env;
 use std::fmt::Debug;
@@ -237,7 +237,7 @@ fn rows_columns_and_words() {
     let pattern = Numbers::new(3).bytes(STREAM + 8);
     for n in lengths(STREAM).step_by(997).chain([STREAM]) {
         let mut stream = Buffer::new(&pattern, n, 0xA5);
-        let _ = chamanzil::runs_hold(stream.lend());
+        let _ = chamanzil::zero_runs_hold(stream.lend());
         stream.is_as_it_was(&pattern);
     }
 }
@@ -285,7 +285,7 @@ fn any_record(numbers: &mut Numbers) -> Record {
 #[test]
 fn records() {
     let mut record = Record::new();
-    sweep(&[SECTOR, SECTOR_BITS], |b| {
+    sweep(&[SECTOR, SECTOR_STREAM], |b| {
         let [bytes, out] = b else { unreachable!() };
         slices::write_sector(&mut record, bytes.lend(), out.lend())
     });
@@ -293,7 +293,7 @@ fn records() {
     assert_eq!(record, Record::new());
     rounds(
         if stride() == 1 { 3000 } else { 100 },
-        &[SECTOR, SECTOR_BITS, CLOSING],
+        &[SECTOR, SECTOR_STREAM, CLOSING],
         |b, _, numbers| {
             let [bytes, out, four] = b else {
                 unreachable!()

@@ -2,7 +2,7 @@
 mod common;
 
 use chamanzil::{encode_block, ied, slices, Record, Refusal, Writer};
-use chamanzil::{BLOCK, CLOSING, MAIN, SECTOR, SECTOR_BITS, SECTOR_READ, STREAM};
+use chamanzil::{BLOCK, CLOSING, MAIN, SECTOR, SECTOR_READ, SECTOR_STREAM, STREAM};
 use common::{frame_place, main_data, stream_of, with_parity};
 
 const OLD: u8 = 165;
@@ -30,11 +30,11 @@ fn length_1() {
         Err(Refusal::Length)
     );
     assert_eq!(
-        slices::write_sector(&mut record, &main[..=SECTOR], &mut out[..SECTOR_BITS]),
+        slices::write_sector(&mut record, &main[..=SECTOR], &mut out[..SECTOR_STREAM]),
         Err(Refusal::Length)
     );
     assert_eq!(
-        slices::write_sector(&mut record, &main[..SECTOR], &mut out[..=SECTOR_BITS]),
+        slices::write_sector(&mut record, &main[..SECTOR], &mut out[..=SECTOR_STREAM]),
         Err(Refusal::Length)
     );
     assert_eq!(
@@ -228,17 +228,17 @@ fn edc_6() {
 /// The answers to a sector and to closing from a record, with record and buffer as they were.
 fn state(record: Record, sector: Option<Refusal>, closing: Option<Refusal>) {
     let bytes = [1; SECTOR];
-    let mut out = [OLD; SECTOR_BITS];
+    let mut out = [OLD; SECTOR_STREAM];
     let mut four = [OLD; CLOSING];
     if let Some(due) = sector {
         let mut r = record;
         assert_eq!(slices::write_sector(&mut r, &bytes, &mut out), Err(due));
-        assert_eq!((r, out), (record, [OLD; SECTOR_BITS]));
+        assert_eq!((r, out), (record, [OLD; SECTOR_STREAM]));
         assert_eq!(
             Writer::from_record(record).write_sector(&bytes, &mut out),
             Err(due)
         );
-        assert_eq!(out, [OLD; SECTOR_BITS]);
+        assert_eq!(out, [OLD; SECTOR_STREAM]);
     }
     if let Some(due) = closing {
         let mut r = record;

@@ -2,9 +2,10 @@
 mod common;
 
 use chamanzil::{
-    encode_block, format_block, read_block, read_sector, repair_block, runs_hold, Refusal, Tally,
+    encode_block, format_block, read_block, read_sector, repair_block, zero_runs_hold, Refusal,
+    Tally,
 };
-use chamanzil::{SECTOR, SECTOR_BITS, SECTOR_READ};
+use chamanzil::{SECTOR, SECTOR_READ, SECTOR_STREAM};
 use common::{main_data, stream_of, Numbers};
 
 #[test]
@@ -19,9 +20,9 @@ fn as_it_is() {
         let block = encode_block(&main, first, info).unwrap();
         let stream = format_block(&main, first, info).unwrap();
         assert_eq!(stream, stream_of(&block));
-        assert!(runs_hold(&stream[..]));
+        assert!(zero_runs_hold(&stream[..]));
         for k in 0..16 {
-            let part = &stream[k * SECTOR_BITS..k * SECTOR_BITS + SECTOR_READ];
+            let part = &stream[k * SECTOR_STREAM..k * SECTOR_STREAM + SECTOR_READ];
             let read = read_sector(part.try_into().unwrap());
             assert_eq!(read.bytes[..], block[k * SECTOR..(k + 1) * SECTOR]);
             assert_eq!((read.unknown, read.sync), (0, 0));

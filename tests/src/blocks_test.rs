@@ -2,7 +2,7 @@
 use crate::block::{block, refusal, BLOCK, MAIN};
 use crate::library;
 use crate::random::Random;
-use crate::reading::{runs_hold, Reader};
+use crate::reading::{zero_runs_hold, Reader};
 use crate::report::Report;
 use crate::tables::Tables;
 use crate::writing::permitted_stream;
@@ -60,14 +60,14 @@ pub fn words(report: &mut Report, random: &mut Random, reader: &Reader) {
     report.end();
 }
 
-/// Permitted streams with random choices: their runs, each byte read back, and the runs after a few bits have flipped.
+/// Permitted streams with random choices: their zero runs, each byte read back, and the zero runs after a few bits have flipped.
 pub fn streams(report: &mut Report, random: &mut Random, t: &Tables, count: usize) {
     report.begin("streams: random choices");
     for _ in 0..count {
         let (first, info) = accepted(random);
         let made = block(&random.bytes(MAIN), first, info);
         let mut stream = permitted_stream(t, &made, random).unwrap();
-        report.check(library::runs_hold(&stream) && runs_hold(&stream), || "runs".into());
+        report.check(library::zero_runs_hold(&stream) && zero_runs_hold(&stream), || "zero runs".into());
         let half = |i: usize| u16::from_be_bytes([stream[2 * i], stream[2 * i + 1]]);
         let wrong = (0..BLOCK).filter(|i| {
             let at = i / 91 * 93 + 2 + i % 91;
@@ -78,7 +78,7 @@ pub fn streams(report: &mut Report, random: &mut Random, t: &Tables, count: usiz
         for _ in 0..30 {
             let bit = random.below(8 * stream.len());
             stream[bit / 8] ^= 0x80 >> (bit % 8);
-            let (ours, theirs) = (library::runs_hold(&stream), runs_hold(&stream));
+            let (ours, theirs) = (library::zero_runs_hold(&stream), zero_runs_hold(&stream));
             report.check(ours == theirs, || format!("bit {bit} flipped: {ours}"));
             if random.below(3) > 0 {
                 stream[bit / 8] ^= 0x80 >> (bit % 8);

@@ -36,8 +36,8 @@ pub fn correct_column(column: &mut [u8]) -> u32 {
 pub fn fate_number(fate: Fate) -> u32 {
     match fate {
         Fate::Unchanged => 0,
-        Fate::Changed => 16,
-        Fate::PastHelp => 17,
+        Fate::Changed => 256,
+        Fate::PastHelp => 257,
     }
 }
 
@@ -51,8 +51,8 @@ pub fn read_word(word: u16, following: u16) -> Option<u8> {
     u8::try_from(answer).ok()
 }
 
-pub fn runs_hold(stream: &[u8]) -> bool {
-    unsafe { chamanzil_runs_hold(stream.as_ptr(), stream.len()) == 1 }
+pub fn zero_runs_hold(stream: &[u8]) -> bool {
+    unsafe { chamanzil_zero_runs_hold(stream.as_ptr(), stream.len()) == 1 }
 }
 
 /// The second implementation's record as the library keeps it, and back: member by member.

@@ -11,6 +11,7 @@ mod reading;
 mod report;
 mod rs;
 mod tables;
+mod tidy;
 mod trial_data;
 mod vectors_test;
 mod writer_test;
@@ -41,21 +42,18 @@ fn round(report: &mut Report, seed: u64) {
     readers_test::all(report, &mut random, &tables, &reader);
 }
 
-/// `--trial-data FOLDER` writes cases for crate `trials`, `--index` writes docs/DEFINITIONS.md. `--long [SEED]` runs until stopped or until something differs, with a new seed each round.
+/// `--trial-data FOLDER` writes cases for crate `trials`. `--long [SEED]` runs until stopped or until something differs, with a new seed each round.
 fn main() -> ExitCode {
     let words: Vec<String> = std::env::args().skip(1).collect();
     if words.first().is_some_and(|w| w == "--trial-data") {
         trial_data::write(Path::new(&words[1])).expect("the folder of the trials' data");
         return ExitCode::SUCCESS;
     }
-    if words.first().is_some_and(|w| w == "--index") {
-        std::fs::write(papers::index_path(), papers::index()).expect("docs/DEFINITIONS.md");
-        return ExitCode::SUCCESS;
-    }
     let is_long = words.first().is_some_and(|w| w == "--long");
     let mut seed = words.get(1).map_or(1, |w| w.parse().expect("a seed is a number"));
     let mut report = Report::new();
     papers::all(&mut report);
+    tidy::all(&mut report);
     loop {
         println!("seed {seed}");
         round(&mut report, seed);

@@ -72,7 +72,7 @@ fn due(answer: &Answer, repaired: Vec<u8>, was: &Left, with_sectors: bool) -> Le
             left.report = numbers(0, &Tallies::default(), *frame, with_sectors);
             left.block = repaired;
         }
-        Answer::WrongLength => left.number = 1,
+        Answer::LengthRefused => left.number = 1,
     }
     left
 }

@@ -29,7 +29,7 @@ pub struct Tallies {
 pub enum Answer {
     HandedOut { main: Vec<u8>, first: u32, tallies: Tallies },
     Refused { number: u32, frame: usize },
-    WrongLength,
+    LengthRefused,
 }
 
 impl Reader {
@@ -91,7 +91,7 @@ impl Reader {
     /// A whole block's stream; the block buffer is left as the repairer leaves it.
     pub fn block(&self, stream: &[u8], buffer: &mut Vec<u8>) -> Answer {
         if stream.len() != 77_380 {
-            return Answer::WrongLength;
+            return Answer::LengthRefused;
         }
         buffer.clear();
         let (mut unknown, mut spoiled) = (0, 0);
@@ -172,7 +172,7 @@ fn checked(buffer: &[u8], tallies: Tallies) -> Answer {
 /// The line of the bench sheet.
 pub fn sheet(answer: &Answer) -> String {
     match answer {
-        Answer::WrongLength => "refused 1".to_string(),
+        Answer::LengthRefused => "refused 1".to_string(),
         Answer::Refused { number, frame } => format!("refused {number} frame {frame}"),
         Answer::HandedOut { first, tallies, .. } => {
             let ([rc, rp], [cc, cp]) = (tallies.rows, tallies.columns);
@@ -182,18 +182,18 @@ pub fn sheet(answer: &Answer) -> String {
     }
 }
 
-/// Every run between two ONEs is 2 to 10, apart from the thirteen of a SYNC Code at its one place.
-pub fn runs_hold(stream: &[u8]) -> bool {
+/// Every zero run between two ONEs is 2 to 10, apart from the thirteen of a SYNC Code at its one place.
+pub fn zero_runs_hold(stream: &[u8]) -> bool {
     let mut last: Option<usize> = None;
     for i in 0..8 * stream.len() {
         if stream[i / 8] >> (7 - i % 8) & 1 == 0 {
             continue;
         }
         if let Some(before) = last {
-            let run = i - before - 1;
+            let zeros = i - before - 1;
             // the ONEs around a SYNC Code's thirteen ZEROs are its bits 13 and 27
-            let is_sync = run == 13 && before % 1488 == 13;
-            if !is_sync && !(2..=10).contains(&run) {
+            let is_sync = zeros == 13 && before % 1488 == 13;
+            if !is_sync && !(2..=10).contains(&zeros) {
                 return false;
             }
         }

@@ -81,10 +81,10 @@ pub fn sync_numbers() -> [usize; 26] {
 }
 
 /// The ZEROs across the join of two half words that each have a ONE.
-pub fn join_run(before: u16, after: u16) -> u32 {
+pub fn join_zeros(before: u16, after: u16) -> u32 {
     before.trailing_zeros() + after.leading_zeros()
 }
 
 pub fn joins(before: u16, after: u16) -> bool {
-    (2..=10).contains(&join_run(before, after))
+    (2..=10).contains(&join_zeros(before, after))
 }

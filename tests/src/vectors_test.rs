@@ -1,6 +1,6 @@
 //! The second implementation against the project's vectors, which a third hand made.
 use crate::block::block;
-use crate::reading::{runs_hold, sheet, Reader};
+use crate::reading::{sheet, zero_runs_hold, Reader};
 use crate::report::Report;
 use crate::tables::Tables;
 use crate::writing::{permitted_stream, write_block, write_sector, Follow, FrameTrace, Record};
@@ -44,7 +44,7 @@ fn blocks(report: &mut Report, t: &Tables, reader: &Reader) {
             let s = load(&format!("{name}.{kind}"));
             let again = permitted_stream(t, &made, &mut Follow { stream: &s, at: 0 });
             report.check(again == Some(s.clone()), || format!("{kind} is not permitted"));
-            report.check(runs_hold(&s), || format!("runs of {kind}"));
+            report.check(zero_runs_hold(&s), || format!("zero runs of {kind}"));
             let line = sheet(&reader.block(&s, &mut Vec::new()));
             let clean = format!("block {first:06X} rows 0 0 columns 0 0 unknown 0 sync 0");
             report.check(line == clean, || format!("{kind}: {line}"));

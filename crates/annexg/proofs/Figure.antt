@@ -11,19 +11,19 @@ use lib.ListN.{length, getD, List·getD-eq-default}
 use Rattle.lists.specs.Test.{every}
 use Rattle.lists.proofs.Test.{every-at}
 use Rattle.annexg.specs.Read.{tableOf, entryOf, wordOf, nextOf, bothZero}
-use Rattle.annexg.specs.Runs.{runsFit}
+use Rattle.annexg.specs.ZeroRuns.{zeroRunsFit}
 use Rattle.annexg.specs.Tables.{mainTable, subTable}
 use Rattle.annexg.proofs.Search.{table-rule, column-is}
 
 ruled : ℕ → ℕ → Bool
-ruled k e = runsFit (k % 4 + 1) (e / 16) (e % 16)
+ruled k e = zeroRunsFit (k % 4 + 1) (e / 16) (e % 16)
 
 -- the entry for byte b in the column of State s + 1 obeys figure G.2
-pub figure : (t b s : ℕ) → t < 2 → b * 4 < length (tableOf t) → s < 4 → T (runsFit (s + 1) (wordOf t b s) (nextOf t b s))
+pub figure : (t b s : ℕ) → t < 2 → b * 4 < length (tableOf t) → s < 4 → T (zeroRunsFit (s + 1) (wordOf t b s) (nextOf t b s))
 unfolding ruled
 figure t b s ht hb hs =
-    subst (λ (n : ℕ). T (runsFit n (wordOf t b s) (nextOf t b s))) (column-is b s hs)
-    (table-rule ruled (unfold ruled runsFit bothZero tableOf mainTable in tt) (unfold ruled runsFit bothZero tableOf subTable in tt) t b s ht hb hs)
+    subst (λ (n : ℕ). T (zeroRunsFit n (wordOf t b s) (nextOf t b s))) (column-is b s hs)
+    (table-rule ruled (unfold ruled zeroRunsFit bothZero tableOf mainTable in tt) (unfold ruled zeroRunsFit bothZero tableOf subTable in tt) t b s ht hb hs)
 
 -- each entry is five hexadecimal digits, and past the tables' ends there is 0
 small : ℕ → ℕ → Bool

@@ -11,7 +11,8 @@ use lib.ListN.{length, getD, drop, drop-of-length-le, List·getD-eq-default}
 use lib.Seq.{drop-cons}
 use Rattle.lists.specs.Test.{every}
 use Rattle.lists.proofs.Test.{every-at}
-use Rattle.annexg.specs.Read.{tableOf, entryOf, fitsOf, firstFit, readGiven, readFrom}
+use Rattle.annexg.specs.Read.{tableOf, entryOf, fitsOf, firstFit, readGiven}
+use Rattle.annexg.specs.Inner.{readFrom}
 use Rattle.annexg.specs.Tables.{mainTable, subTable}
 use Rattle.annexg.specs.declared.Reading.{Reading}
 use Rattle.annexg.specs.declared.Reading.the-variants.{Byte, Unknown}

@@ -15,7 +15,8 @@ use lib.ListN.{length, getD}
 use borrow.Author.Tests.{eq-eqb}
 use Rattle.lists.specs.Test.{every}
 use Rattle.lists.proofs.Test.{and-left, and-right, truth-of, every-at, implied}
-use Rattle.annexg.specs.Read.{tableOf, entryOf, bothZero, agrees, fitsOf, firstFit, readGiven, readFrom, readWord}
+use Rattle.annexg.specs.Read.{tableOf, entryOf, bothZero, agrees, fitsOf, firstFit, readGiven, readWord}
+use Rattle.annexg.specs.Inner.{readFrom}
 use Rattle.annexg.specs.Tables.{mainTable, subTable}
 use Rattle.annexg.proofs.Search.{each-table, in-table, from-unfit, from-fit, from-end, from-past}
 use Rattle.annexg.specs.declared.Reading.{Reading}

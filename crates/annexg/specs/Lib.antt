@@ -1,4 +1,5 @@
 pub mod Tables
 pub mod Read
-pub mod Runs
+pub mod ZeroRuns
 pub mod Sync
+pub mod Inner

@@ -1,5 +1,5 @@
 -- Entries of annex G's tables (tableOf, entryOf, wordOf, nextOf), and the byte that a Code Word stands for (document 01, "Reading a word"): the test of an entry
--- (bothZero, agrees, fitsOf), the search (firstFit, readGiven, readFrom, readWord), its answer as a number (readingNumber), and document 01's words (StandsFor).
+-- (bothZero, agrees, fitsOf), the search (firstFit, readGiven, readWord), its answer as a number (readingNumber), and document 01's words (StandsFor).
 -- A half word is 16 bits of the channel, the first bit highest: a Code Word is one half word, a SYNC Code two. Its bit 15 comes first.
 -- Assumes nothing.
 use mathlib.Core.Path.{_≡_}
@@ -7,7 +7,7 @@ use mathlib.Core.Bool.{Bool, true, not, cond, _&&_}
 use mathlib.Core.List.{List, [], _∷_}
 use Prim.Native.Nat.{ℕ, zero, suc, _+_, _*_, _/_, _%_, _<_, _≤_}
 use lib.Dec.{T, eqb}
-use lib.ListN.{getD, length, drop}
+use lib.ListN.{getD, length}
 use Rattle.annexg.specs.Tables.{mainTable, subTable}
 use Rattle.annexg.specs.declared.Reading.{Reading}
 use Rattle.annexg.specs.declared.Reading.the-variants.{Byte, Unknown}
@@ -54,12 +54,6 @@ firstFit w z (e ∷ es) k d = cond (fitsOf w z e) (Byte (k / 4)) (firstFit w z e
 -- the search through the columns stops at the first entry that fits: main table, then substitution table, byte by byte, State by State
 unfoldable pub readGiven : ℕ → Bool → Reading
 readGiven w z = firstFit w z (tableOf 0) 0 (firstFit w z (tableOf 1) 0 Unknown)
-
--- the search from entry k of table t on: what is left of that table, then the table after it; after the second there is none
-unfoldable pub readFrom : ℕ → Bool → ℕ → ℕ → Reading
-readFrom w z zero k = firstFit w z (drop k (tableOf 0)) k (firstFit w z (tableOf 1) 0 Unknown)
-readFrom w z (suc zero) k = firstFit w z (drop k (tableOf 1)) k Unknown
-readFrom w z (suc (suc t)) k = Unknown
 
 -- a reading as a number: its byte, or 256 for an unknown word
 abbrev pub readingNumber : Reading → ℕ

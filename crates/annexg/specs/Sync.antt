@@ -1,12 +1,13 @@
--- The SYNC Codes (table 4): 32 bits, of which the first half word tells the code and the second is the same in all.
+-- The SYNC Codes (table 4): 32 bits, of which the first half word tells the code and the second is the same in all. syncTable and codeFor (the first half
+-- words), syncEnd (the second), isSync (the test of two half words), syncZeroRuns (figure G.2's rule for a first half word).
 -- Assumes nothing.
-use mathlib.Core.Bool.{Bool, _&&_}
+use mathlib.Core.Bool.{Bool, true, false, _&&_, _||_}
 use mathlib.Core.List.{List, [], _∷_}
 use Prim.Native.Nat.{ℕ, _+_, _*_, _-_, _/_}
 use lib.Dec.{eqb}
 use lib.ListN.{getD}
 use Rattle.lists.specs.Count.{bit}
-use Rattle.annexg.specs.Runs.{bitsOf, trail, inner, startFits}
+use Rattle.annexg.specs.ZeroRuns.{bitsOf, trail, inner, startFits}
 
 -- table 4: first half words of SY0 to SY7, Primary and Secondary, in States 1 and 2, then in States 3 and 4
 unfoldable pub syncTable : List ℕ
@@ -26,7 +27,12 @@ syncEnd = 0x0011
 abbrev pub codeFor : ℕ → ℕ → Bool → ℕ
 codeFor s n c = getD syncTable ((s - 1) / 2 * 16 + n * 2 + bit c) 0
 
--- the runs of a first half word in State s: it starts as figure G.2 wants of a Code Word of that State, its inner runs are 2 to 10, and it ends in two
+-- the half words a and b are one of the four codes of SYn, n at most 7: Primary or Secondary, of either class
+unfoldable pub isSync : ℕ → ℕ → ℕ → Bool
+isSync n a b =
+    (eqb a (codeFor 1 n false) || (eqb a (codeFor 1 n true) || (eqb a (codeFor 3 n false) || eqb a (codeFor 3 n true)))) && eqb b syncEnd
+
+-- the zero runs of a first half word in State s: it starts as figure G.2 wants of a Code Word of that State, its inner zero runs are 2 to 10, and it ends in two
 -- ZEROs, which are thirteen with the eleven that open the second half word
-unfoldable pub syncRuns : ℕ → ℕ → Bool
-syncRuns s h = startFits s h && (inner (bitsOf 16 h) && eqb (trail h) 2)
+unfoldable pub syncZeroRuns : ℕ → ℕ → Bool
+syncZeroRuns s h = startFits s h && (inner (bitsOf 16 h) && eqb (trail h) 2)

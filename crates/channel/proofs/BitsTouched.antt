@@ -1,9 +1,9 @@
--- A byte that no changed bit touches is not disturbed, and a permitted stream is of bytes.
+-- A byte that no changed bit touches is not disturbed (bits-touched), and a permitted stream is of bytes (stream-bytes).
 -- Assumes nothing.
 use mathlib.Core.Path.{_≡_, refl, sym, ap, ap₂, subst, _∙_}
 use mathlib.Core.Bool.{Bool, true, false, not, _&&_, _||_}
 use mathlib.Core.List.{List, [], _∷_}
-use Prim.Native.Nat.{ℕ, zero, suc, _+_, _*_, _-_, _^_, _/_, _%_, _<_, suc-le-suc}
+use Prim.Native.Nat.{ℕ, zero, suc, _+_, _*_, _/_, _%_, _<_}
 use native.Mathlib.Nat.{not-suc-le-zero, le-of-suc-le-suc}
 use native.Mathlib.Omega.{arith}
 use borrow.Author.Tests.{not-false, eqb-true, eq-eqb}
@@ -17,7 +17,10 @@ use Rattle.annexg.specs.Read.{State}
 use Rattle.annexg.specs.Sync.{syncTable, codeFor}
 use Rattle.annexg.proofs.Figure.{entry-below}
 use Rattle.annexg.proofs.Sync.{sync-rule}
-use Rattle.channel.specs.Block.{packed, halfOf, halfAt, bitAt, changed, someFrom, touched}
+use Rattle.bytes.specs.Halves.{packed, halfAt, bitAt}
+use Rattle.bytes.proofs.Halves.{packed-bytes, same-byte, bit-of-byte}
+use Rattle.layout.specs.Sectors.{halfOf}
+use Rattle.channel.specs.Block.{changed, someFrom, touched}
 use Rattle.channel.specs.Channel.{Item, sync, byte, nextFor, lastFor, allowed, permitted, stream, proper, allProper}
 use Rattle.channel.proofs.Damage.{sameMarks, disturbed}
 use Rattle.channel.proofs.Entries.{Taken, taken, taken-next}
@@ -35,70 +38,6 @@ none-at t k (suc n) e (suc j) h =
     let m : k + suc j ≡ suc k + j = omega arith in
     rw m (none-at t (suc k) n (either-none (t k) (someFrom t (suc k) n) e .1) j (le-of-suc-le-suc h))
 
--- the low bits of a number, one more each time
-low-4 : (x : ℕ) → x % 4 ≡ x / 2 % 2 * 2 + x % 2
-low-4 x = omega arith
-
-low-8 : (x : ℕ) → x % 8 ≡ x / 4 % 2 * 4 + x % 4
-low-8 x = omega arith
-
-low-16 : (x : ℕ) → x % 16 ≡ x / 8 % 2 * 8 + x % 8
-low-16 x = omega arith
-
-low-32 : (x : ℕ) → x % 32 ≡ x / 16 % 2 * 16 + x % 16
-low-32 x = omega arith
-
-low-64 : (x : ℕ) → x % 64 ≡ x / 32 % 2 * 32 + x % 32
-low-64 x = omega arith
-
-low-128 : (x : ℕ) → x % 128 ≡ x / 64 % 2 * 64 + x % 64
-low-128 x = omega arith
-
-low-256 : (x : ℕ) → x % 256 ≡ x / 128 % 2 * 128 + x % 128
-low-256 x = omega arith
-
--- two bytes with the same bits are the same
-same-byte : (x y : ℕ) → x < 256 → y < 256 → ((j : ℕ) → j < 8 → x / 2 ^ (7 - j) % 2 ≡ y / 2 ^ (7 - j) % 2) → x ≡ y
-same-byte x y hx hy e = whole x hx ∙ s256 ∙ sym (whole y hy)
-  where
-    whole : (z : ℕ) → z < 256 → z ≡ z % 256
-    whole z h = omega arith
-
-    one : (z : ℕ) → z % 2 ≡ z / 1 % 2
-    one z = omega arith
-
-    s2 : x % 2 ≡ y % 2
-    s2 = one x ∙ e 7 (lit< tt) ∙ sym (one y)
-
-    s4 : x % 4 ≡ y % 4
-    s4 = low-4 x ∙ ap₂ (λ (a b : ℕ). a * 2 + b) (e 6 (lit< tt)) s2 ∙ sym (low-4 y)
-
-    s8 : x % 8 ≡ y % 8
-    s8 = low-8 x ∙ ap₂ (λ (a b : ℕ). a * 4 + b) (e 5 (lit< tt)) s4 ∙ sym (low-8 y)
-
-    s16 : x % 16 ≡ y % 16
-    s16 = low-16 x ∙ ap₂ (λ (a b : ℕ). a * 8 + b) (e 4 (lit< tt)) s8 ∙ sym (low-16 y)
-
-    s32 : x % 32 ≡ y % 32
-    s32 = low-32 x ∙ ap₂ (λ (a b : ℕ). a * 16 + b) (e 3 (lit< tt)) s16 ∙ sym (low-32 y)
-
-    s64 : x % 64 ≡ y % 64
-    s64 = low-64 x ∙ ap₂ (λ (a b : ℕ). a * 32 + b) (e 2 (lit< tt)) s32 ∙ sym (low-64 y)
-
-    s128 : x % 128 ≡ y % 128
-    s128 = low-128 x ∙ ap₂ (λ (a b : ℕ). a * 64 + b) (e 1 (lit< tt)) s64 ∙ sym (low-128 y)
-
-    s256 : x % 256 ≡ y % 256
-    s256 = low-256 x ∙ ap₂ (λ (a b : ℕ). a * 128 + b) (e 0 (lit< tt)) s128 ∙ sym (low-256 y)
-
--- bit j of byte k of a stream
-bit-at : (xs : List ℕ) (k j : ℕ) → j < 8 → bitAt xs (8 * k + j) ≡ getD xs k 0 / 2 ^ (7 - j) % 2
-unfolding bitAt
-bit-at xs k j h =
-    let e : (8 * k + j) / 8 ≡ k = omega arith in
-    let f : (8 * k + j) % 8 ≡ j = omega arith in
-    rw (e, f)
-
 kept : (ys xs : List ℕ) (j : ℕ) → changed ys xs j ≡ false → bitAt xs j ≡ bitAt ys j
 unfolding changed
 kept ys xs j e = eqb-true (bitAt xs j) (bitAt ys j) (not-false (eqb (bitAt xs j) (bitAt ys j)) e)
@@ -107,7 +46,7 @@ kept ys xs j e = eqb-true (bitAt xs j) (bitAt ys j) (not-false (eqb (bitAt xs j)
 same-at : (ys xs : List ℕ) → Bytes ys → Bytes xs → (k : ℕ) → ((j : ℕ) → j < 8 → changed ys xs (8 * k + j) ≡ false) → getD xs k 0 ≡ getD ys k 0
 same-at ys xs by bx k e =
     same-byte (getD xs k 0) (getD ys k 0) (getD-byte xs k bx) (getD-byte ys k by)
-    (λ j h. sym (bit-at xs k j h) ∙ kept ys xs (8 * k + j) (e j h) ∙ bit-at ys k j h)
+    (λ j h. sym (bit-of-byte xs k j h) ∙ kept ys xs (8 * k + j) (e j h) ∙ bit-of-byte ys k j h)
 
 high-mark : (x y : ℕ) → x < 256 → y < 256 → (x * 256 + y) / 32768 % 2 ≡ x / 128 % 2
 high-mark x y hx hy = let e : (x * 256 + y) / 32768 ≡ x / 128 = omega arith in ap (λ (z : ℕ). z % 2) e
@@ -120,14 +59,14 @@ unfolding halfAt
 mark-high xs bx k =
     let e : 8 * (2 * (k + 1)) + 0 ≡ 16 * k + 16 = omega arith in
     high-mark (getD xs (2 * (k + 1)) 0) (getD xs (2 * (k + 1) + 1) 0) (getD-byte xs (2 * (k + 1)) bx) (getD-byte xs (2 * (k + 1) + 1) bx)
-    ∙ sym (bit-at xs (2 * (k + 1)) 0 (lit< tt)) ∙ ap (bitAt xs) e
+    ∙ sym (bit-of-byte xs (2 * (k + 1)) 0 (lit< tt)) ∙ ap (bitAt xs) e
 
 mark-low : (xs : List ℕ) → Bytes xs → (k : ℕ) → halfAt xs (k + 1) / 8 % 2 ≡ bitAt xs (16 * k + 28)
 unfolding halfAt
 mark-low xs bx k =
     let e : 8 * (2 * (k + 1) + 1) + 4 ≡ 16 * k + 28 = omega arith in
     low-mark (getD xs (2 * (k + 1)) 0) (getD xs (2 * (k + 1) + 1) 0) (getD-byte xs (2 * (k + 1) + 1) bx)
-    ∙ sym (bit-at xs (2 * (k + 1) + 1) 4 (lit< tt)) ∙ ap (bitAt xs) e
+    ∙ sym (bit-of-byte xs (2 * (k + 1) + 1) 4 (lit< tt)) ∙ ap (bitAt xs) e
 
 and-true : (a b : Bool) → a ≡ true → b ≡ true → (a && b) ≡ true
 and-true a b p q = rw (p, q)
@@ -158,9 +97,7 @@ bits-touched ys xs by bx i e =
         (eq-eqb (f / 32768 % 2) (g / 32768 % 2) (mark-high xs bx k ∙ kept ys xs (16 * k + 16) a ∙ sym (mark-high ys by k)))
         (eq-eqb (f / 8 % 2) (g / 8 % 2) (mark-low xs bx k ∙ kept ys xs (16 * k + 28) b ∙ sym (mark-low ys by k)))
 
--- every half of a permitted stream is 16 bits
-Halves : List ℕ → Type 0
-Halves hs = (k : ℕ) → k < length hs → getD hs k 0 < 65536
+-- ---- every half word of a permitted stream is 16 bits
 
 codes-small : T (every (λ (k h : ℕ). ltb h 65536) syncTable)
 unfolding syncTable
@@ -174,8 +111,9 @@ taken-small {s} {b} {e} t =
     let h : e < 1048576 = rw (t .entry-is) (entry-below (t .table-no) b (t .column)) in
     omega arith
 
-stream-small : (s l : ℕ) (is : List Item) (cs : List Bool) → T (allProper is) → State s → T (permitted s l is cs) → Halves (stream s is cs)
-unfolding permitted stream allProper Halves
+stream-small : (s l : ℕ) (is : List Item) (cs : List Bool) → T (allProper is) → State s → T (permitted s l is cs)
+    → (k : ℕ) → k < length (stream s is cs) → getD (stream s is cs) k 0 < 65536
+unfolding permitted stream allProper
 stream-small s l [] cs hp hs p k h = absurd (not-suc-le-zero h)
 stream-small s l (i ∷ is) [] hp hs p k h = absurd p
 stream-small s l (sync n ∷ is) (c ∷ cs) hp hs p zero h = code-small s n c hs (ltb→lt n 8 (and-left (proper (sync n)) (allProper is) hp))
@@ -188,11 +126,6 @@ stream-small s l (byte b ∷ is) (c ∷ cs) hp hs p (suc k) h =
     stream-small (nextFor s (byte b) c) (lastFor s (byte b) c) is cs (and-right (proper (byte b)) (allProper is) hp)
     (taken-next (taken s l b c (ltb→lt b 256 (and-left (proper (byte b)) (allProper is) hp)) hs (and-left (allowed s l (byte b) c) (permitted (nextFor s (byte b) c) (lastFor s (byte b) c) is cs) p)))
     (and-right (allowed s l (byte b) c) (permitted (nextFor s (byte b) c) (lastFor s (byte b) c) is cs) p) k (le-of-suc-le-suc h)
-
-packed-bytes : (hs : List ℕ) → Halves hs → Bytes (packed hs)
-unfolding packed Halves Bytes
-packed-bytes [] b = tt
-packed-bytes (x ∷ hs) b = let k = b 0 (omega arith) in (omega arith, (omega arith, packed-bytes hs (λ j k. b (suc j) (suc-le-suc k))))
 
 pub stream-bytes : (s l : ℕ) (is : List Item) (cs : List Bool) → T (allProper is) → State s → T (permitted s l is cs) → Bytes (packed (stream s is cs))
 stream-bytes s l is cs hp hs p = packed-bytes (stream s is cs) (stream-small s l is cs hp hs p)

@@ -1,9 +1,10 @@
--- A permitted stream of frames after any damage: each byte that is not disturbed is read as it was. And two lists differ in at most the places that a test marks.
+-- A permitted stream of frames after any damage: each byte that is not disturbed is read as it was (sameMarks, disturbed, reading-frames). And two lists differ
+-- in at most the places that a test marks (distance-count).
 -- Assumes nothing.
 use mathlib.Core.Path.{_≡_, refl, sym, ap, ap₂, subst, _∙_}
 use mathlib.Core.Bool.{Bool, true, false, not, _&&_}
 use mathlib.Core.List.{List, [], _∷_, _++_}
-use Prim.Native.Nat.{ℕ, zero, suc, _+_, _*_, _/_, _%_, _<_, _≤_, suc-le-suc}
+use Prim.Native.Nat.{ℕ, suc, _+_, _*_, _/_, _%_, _<_, _≤_, suc-le-suc}
 use native.Mathlib.Omega.{arith}
 use borrow.Author.Tests.{not-false, eq-eqb}
 use lib.Dec.{T, eqb, eqb→eq}
@@ -12,7 +13,11 @@ use Rattle.lists.specs.Bytes.{Bytes}
 use Rattle.lists.specs.Count.{bit, countFrom, distance}
 use Rattle.lists.proofs.Test.{and-left, and-right, truth-of}
 use Rattle.annexg.specs.Read.{State, bothZero, readWord}
-use Rattle.channel.specs.Block.{frames, packed, halfOf, byteOf, halfAt, readAt}
+use Rattle.layout.specs.Lengths.{frameBytes}
+use Rattle.channel.specs.Block.{frames, readingByte, readAt}
+use Rattle.bytes.specs.Halves.{packed, halfAt}
+use Rattle.bytes.proofs.Halves.{half-packed}
+use Rattle.layout.specs.Sectors.{halfOf}
 use Rattle.channel.specs.Channel.{Item, sync, byte, permitted, stream, place, allProper}
 use Rattle.channel.proofs.Places.{frame-place, frame-item, frames-length, proper-append, frames-proper}
 use Rattle.channel.proofs.Reading.{reads}
@@ -32,28 +37,18 @@ same-bothZero f g h =
     (eqb→eq (f / 32768 % 2) (g / 32768 % 2) (and-left (eqb (f / 32768 % 2) (g / 32768 % 2)) (eqb (f / 8 % 2) (g / 8 % 2)) h))
     (eqb→eq (f / 8 % 2) (g / 8 % 2) (and-right (eqb (f / 32768 % 2) (g / 32768 % 2)) (eqb (f / 8 % 2) (g / 8 % 2)) h))
 
--- the halves of packed halves
-pub half-packed : (hs : List ℕ) (k : ℕ) → halfAt (packed hs) k ≡ getD hs k 0
-unfolding halfAt packed
-half-packed [] k = refl
-half-packed (h ∷ hs) zero = omega arith
-half-packed (h ∷ hs) (suc k) =
-    let e : 2 * suc k ≡ suc (suc (2 * k)) = omega arith in
-    let f : 2 * suc k + 1 ≡ suc (suc (2 * k + 1)) = omega arith in
-    rw (f, e) (half-packed hs k)
-
 -- any frames after which an item stands, from any State and after any half
-module _ (s l n g : ℕ) (bs : List ℕ) (i₀ : Item) (end : List Item) (cs : List Bool) (e : length bs ≡ 91 * n) (hb : Bytes bs) (he : T (allProper (i₀ ∷ end)))
+module _ (s l n g : ℕ) (bs : List ℕ) (i₀ : Item) (end : List Item) (cs : List Bool) (e : length bs ≡ frameBytes * n) (hb : Bytes bs) (he : T (allProper (i₀ ∷ end)))
     (hs : State s) (p : T (permitted s l (frames g n bs ++ i₀ ∷ end) cs)) where
-  pub reading-frames : (xs : List ℕ) (i : ℕ) → i < 91 * n → disturbed (packed (stream s (frames g n bs ++ i₀ ∷ end) cs)) xs i ≡ false → readAt xs i ≡ getD bs i 0
+  pub reading-frames : (xs : List ℕ) (i : ℕ) → i < frameBytes * n → disturbed (packed (stream s (frames g n bs ++ i₀ ∷ end) cs)) xs i ≡ false → readAt xs i ≡ getD bs i 0
   unfolding disturbed readAt
   reading-frames xs i hi t =
       let items = frames g n bs ++ i₀ ∷ end in
       let o = stream s items cs in
-      let f = i / 91 in
-      let q = i % 91 in
+      let f = i / frameBytes in
+      let q = i % frameBytes in
       let hf : f < n = omega arith in
-      let hq : q < 91 = omega arith in
+      let hq : q < frameBytes = omega arith in
       let at-half : place items (92 * f + suc q) ≡ halfOf i = frame-place n g bs (i₀ ∷ end) e f q hf hq ∙ omega arith in
       let at-next : suc (place items (92 * f + suc q)) ≡ halfOf i + 1 = ap suc at-half ∙ omega arith in
       let the-byte : getD items (92 * f + suc q) (sync 0) ≡ byte (getD bs i 0) =
@@ -69,7 +64,7 @@ module _ (s l n g : ℕ) (bs : List ℕ) (i₀ : Item) (end : List Item) (cs : L
       ∙ ap bothZero (half-packed o (halfOf i + 1) ∙ ap (λ (x : ℕ). getD o x 0) (sym at-next)) in
       let r = reads s l items cs (proper-append (frames g n bs) (i₀ ∷ end) (frames-proper n g bs e hb) he) hs p (92 * f + suc q) (getD bs i 0) len the-byte
       (halfAt xs (halfOf i + 1)) marks in
-      ap (λ (w : ℕ). byteOf (readWord w (halfAt xs (halfOf i + 1)))) word ∙ ap byteOf r
+      ap (λ (w : ℕ). readingByte (readWord w (halfAt xs (halfOf i + 1)))) word ∙ ap readingByte r
 
 -- counting
 count-step : (t : Bool) (x y a b : ℕ) → (t ≡ false → x ≡ y) → a ≤ b → bit (not (eqb x y)) + a ≤ bit t + b

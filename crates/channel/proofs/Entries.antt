@@ -9,7 +9,7 @@ use lib.Dec.{T, ltb, leb, leb→le, lit<}
 use lib.ListN.{length}
 use Rattle.lists.proofs.Test.{and-left, and-right}
 use Rattle.annexg.specs.Read.{State, tableOf, entryOf, bothZero, agrees}
-use Rattle.annexg.specs.Runs.{inside}
+use Rattle.annexg.specs.ZeroRuns.{inside}
 use Rattle.annexg.specs.Tables.{mainTable, subTable}
 use Rattle.annexg.proofs.Search.{length-main, length-sub, table-rule, column-is}
 use Rattle.channel.specs.Channel.{byte, entryFor, swaps, allowed}

@@ -1,16 +1,19 @@
--- Streams one after the other, the length of a stream, and that permitted streams are there.
+-- Streams one after the other (stream-append, permitted-append, permitted-cut, state-after), that permitted streams are there (main-permitted), and how long
+-- they are (stream-length, and of a block permitted-length).
 -- Assumes nothing.
 use mathlib.Core.Path.{_≡_, refl, sym, ap, ap₂, _∙_}
-use mathlib.Core.Bool.{Bool, false}
+use mathlib.Core.Bool.{Bool}
 use mathlib.Core.List.{List, [], _∷_, _++_, map, append-assoc}
-use Prim.Native.Nat.{ℕ, zero, suc, _+_, _*_, _/_, _%_}
+use Prim.Native.Nat.{ℕ, zero, suc, _+_, _*_}
 use native.Mathlib.Nat.{zero-add, suc-add}
 use native.Mathlib.Omega.{arith}
 use lib.Dec.{T}
-use lib.ListN.{length, take, drop, replicate}
+use lib.ListN.{length, take, drop}
 use Rattle.lists.proofs.Test.{and-left, and-right, and-both}
 use Rattle.annexg.specs.Read.{State}
-use Rattle.channel.specs.Block.{frames, blockItems, packed, closed, permittedChoices, permittedStream}
+use Rattle.layout.specs.Lengths.{frameBytes, frameHalves, blockSize, blockFrames, streamSize}
+use Rattle.channel.specs.Block.{frames, blockItems, closed, permittedChoices, permittedStream}
+use Rattle.bytes.proofs.Halves.{packed-length}
 use Rattle.channel.specs.Channel.{Item, sync, byte, halvesFor, nextFor, lastFor, allowed, permitted, stream, stateAfter, lastAfter, place, proper, allProper}
 use Rattle.channel.proofs.Places.{head-length, tail-length}
 use Rattle.channel.proofs.Reading.{next-state}
@@ -38,13 +41,6 @@ permitted-append s l (i ∷ is) js (c ∷ cs) ds p q =
     and-both (allowed s l i c) (permitted (nextFor s i c) (lastFor s i c) (is ++ js) (cs ++ ds)) (and-left (allowed s l i c) (permitted (nextFor s i c) (lastFor s i c) is cs) p)
     (permitted-append (nextFor s i c) (lastFor s i c) is js cs ds (and-right (allowed s l i c) (permitted (nextFor s i c) (lastFor s i c) is cs) p) q)
 
--- Primary codes and main words are always permitted
-pub main-permitted : (s l : ℕ) (is : List Item) → T (permitted s l is (replicate (length is) false))
-unfolding permitted
-main-permitted s l [] = tt
-main-permitted s l (sync n ∷ is) = main-permitted 1 (lastFor s (sync n) false) is
-main-permitted s l (byte b ∷ is) = main-permitted (nextFor s (byte b) false) (lastFor s (byte b) false) is
-
 -- the length of a stream is the place after the last item
 pub stream-length : (s l : ℕ) (is : List Item) (cs : List Bool) → T (permitted s l is cs) → length (stream s is cs) ≡ place is (length is)
 unfolding permitted stream place
@@ -63,37 +59,20 @@ unfolding halves place
 halves-bytes [] ys = sym (zero-add (place ys (length ys)))
 halves-bytes (x ∷ xs) ys = ap suc (halves-bytes xs ys) ∙ sym (suc-add (length xs) (place ys (length ys)))
 
-halves-frames : (n g : ℕ) (bs : List ℕ) (end : List Item) → length bs ≡ 91 * n → halves (frames g n bs ++ end) ≡ 93 * n + halves end
+halves-frames : (n g : ℕ) (bs : List ℕ) (end : List Item) → length bs ≡ frameBytes * n → halves (frames g n bs ++ end) ≡ frameHalves * n + halves end
 unfolding frames halves place
 halves-frames zero g bs end e = sym (zero-add (place end (length end)))
 halves-frames (suc n) g bs end e =
-    rw (append-assoc (map byte (take 91 bs)) (frames (suc g) n (drop 91 bs)) end)
-    (ap (λ (x : ℕ). suc (suc x)) (halves-bytes (take 91 bs) (frames (suc g) n (drop 91 bs) ++ end) ∙ ap₂ (λ (x y : ℕ). x + y) (head-length bs n e) (halves-frames n (suc g) (drop 91 bs) end (tail-length bs n e)))
+    rw (append-assoc (map byte (take frameBytes bs)) (frames (suc g) n (drop frameBytes bs)) end)
+    (ap (λ (x : ℕ). suc (suc x)) (halves-bytes (take frameBytes bs) (frames (suc g) n (drop frameBytes bs) ++ end) ∙ ap₂ (λ (x y : ℕ). x + y) (head-length bs n e) (halves-frames n (suc g) (drop frameBytes bs) end (tail-length bs n e)))
     ∙ omega arith)
 
-pub packed-length : (hs : List ℕ) → length (packed hs) ≡ 2 * length hs
-unfolding packed
-packed-length [] = refl
-packed-length (h ∷ hs) = ap (λ (x : ℕ). suc (suc x)) (packed-length hs) ∙ omega arith
-
 -- a permitted stream of a block is 77,380 bytes
-pub block-length : (bs : List ℕ) (cs : List Bool) → length bs ≡ 37856 → T (permittedChoices bs cs) → length (permittedStream bs cs) ≡ 77380
+pub permitted-length : (bs : List ℕ) (cs : List Bool) → length bs ≡ blockSize → T (permittedChoices bs cs) → length (permittedStream bs cs) ≡ streamSize
 unfolding blockItems halves place
-block-length bs cs e p =
-    packed-length (stream 1 (frames 0 416 bs ++ sync 0 ∷ []) (closed cs))
-    ∙ ap (λ (x : ℕ). 2 * x) (stream-length 1 0 (frames 0 416 bs ++ sync 0 ∷ []) (closed cs) p ∙ halves-frames 416 0 bs (sync 0 ∷ []) e)
-
--- a permitted list of choices, cut where the items are cut
-pub permitted-cut :
-    (s l : ℕ) (is js : List Item) (cs ds : List Bool) → length cs ≡ length is → T (permitted s l (is ++ js) (cs ++ ds))
-    → T (permitted s l is cs) × T (permitted (stateAfter s is cs) (lastAfter s l is cs) js ds)
-unfolding permitted stateAfter lastAfter
-permitted-cut s l [] js [] ds e p = (tt, p)
-permitted-cut s l [] js (c ∷ cs) ds e p = absurd (omega arith)
-permitted-cut s l (i ∷ is) js [] ds e p = absurd (omega arith)
-permitted-cut s l (i ∷ is) js (c ∷ cs) ds e p =
-    let r = permitted-cut (nextFor s i c) (lastFor s i c) is js cs ds (omega arith) (and-right (allowed s l i c) (permitted (nextFor s i c) (lastFor s i c) (is ++ js) (cs ++ ds)) p) in
-    (and-both (allowed s l i c) (permitted (nextFor s i c) (lastFor s i c) is cs) (and-left (allowed s l i c) (permitted (nextFor s i c) (lastFor s i c) (is ++ js) (cs ++ ds)) p) (r .0), r .1)
+permitted-length bs cs e p =
+    packed-length (stream 1 (frames 0 blockFrames bs ++ sync 0 ∷ []) (closed cs))
+    ∙ ap (λ (x : ℕ). 2 * x) (stream-length 1 0 (frames 0 blockFrames bs ++ sync 0 ∷ []) (closed cs) p ∙ halves-frames blockFrames 0 bs (sync 0 ∷ []) e)
 
 -- the State after permitted items is one
 pub state-after : (s l : ℕ) (is : List Item) (cs : List Bool) → T (allProper is) → State s → T (permitted s l is cs) → State (stateAfter s is cs)
@@ -104,8 +83,3 @@ state-after s l (i ∷ is) (c ∷ cs) hp hs p =
     let p₁ = and-left (allowed s l i c) (permitted (nextFor s i c) (lastFor s i c) is cs) p in
     let p₂ = and-right (allowed s l i c) (permitted (nextFor s i c) (lastFor s i c) is cs) p in
     state-after (nextFor s i c) (lastFor s i c) is cs (and-right (proper i) (allProper is) hp) (next-state s l i c (and-left (proper i) (allProper is) hp) hs p₁) p₂
-
-pub packed-append : (gs hs : List ℕ) → packed (gs ++ hs) ≡ packed gs ++ packed hs
-unfolding packed
-packed-append [] hs = refl
-packed-append (g ∷ gs) hs = ap (λ (x : List ℕ). g / 256 ∷ g % 256 ∷ x) (packed-append gs hs)

@@ -1,4 +1,4 @@
--- The order of the SYNC Codes in a sector, and which choices and runs are refused: what the definitions say, held against document 01's words.
+-- The order of the SYNC Codes in a sector, and which choices and zero runs are refused: what the definitions say, held against document 01's words.
 -- Assumes nothing.
 use mathlib.Core.Path.{_≡_, refl, ap, _∙_}
 use mathlib.Core.Bool.{Bool, true, false, _&&_}
@@ -10,10 +10,12 @@ use borrow.Author.Tests.{ne-eqb, le-ltb, lt-ltb}
 use lib.Dec.{eqb}
 use lib.ListN.{length, getD, take, drop, replicate}
 use Rattle.annexg.specs.Read.{entryOf, wordOf}
-use Rattle.annexg.specs.Runs.{inside}
-use Rattle.channel.specs.Bits.{syncHalf, runFits, blockRunFits}
-use Rattle.channel.specs.Block.{frameCodes, codeOf, frames}
-use Rattle.channel.specs.Channel.{Item, sync, byte, entryFor, joinRun, allowed}
+use Rattle.annexg.specs.ZeroRuns.{inside}
+use Rattle.layout.specs.Lengths.{frameBytes, frameBits}
+use Rattle.channel.specs.Bits.{syncHalf, zeroRunFits, blockZeroRunFits}
+use Rattle.layout.specs.Sectors.{frameCodes, codeOf}
+use Rattle.channel.specs.Block.{frames}
+use Rattle.channel.specs.Channel.{Item, sync, byte, entryFor, joinZeros, allowed}
 use Rattle.channel.proofs.Places.{item-past, head-length, tail-length}
 
 -- ---- the order of the SYNC Codes
@@ -32,17 +34,17 @@ frame-order = refl
 
 -- frame f of the frames from g on begins with its own code
 pub frame-sync :
-    (n g : ℕ) (bs : List ℕ) (end : List Item) → length bs ≡ 91 * n → (f : ℕ) → f < n → getD (frames g n bs ++ end) (92 * f) (byte 0) ≡ sync (codeOf (g + f))
+    (n g : ℕ) (bs : List ℕ) (end : List Item) → length bs ≡ frameBytes * n → (f : ℕ) → f < n → getD (frames g n bs ++ end) (92 * f) (byte 0) ≡ sync (codeOf (g + f))
 unfolding frames
 frame-sync zero g bs end e f h = absurd (not-suc-le-zero h)
 frame-sync (suc n) g bs end e zero h = ap (λ (x : ℕ). sync (codeOf x)) (omega arith)
 frame-sync (suc n) g bs end e (suc f) h =
-    let k : 92 * suc f ≡ suc (91 + 92 * f) = omega arith in
-    rw (k, append-assoc (map byte (take 91 bs)) (frames (suc g) n (drop 91 bs)) end)
-    (past ∙ frame-sync n (suc g) (drop 91 bs) end (tail-length bs n e) f (le-of-suc-le-suc h) ∙ ap (λ (x : ℕ). sync (codeOf x)) (omega arith))
+    let k : 92 * suc f ≡ suc (frameBytes + 92 * f) = omega arith in
+    rw (k, append-assoc (map byte (take frameBytes bs)) (frames (suc g) n (drop frameBytes bs)) end)
+    (past ∙ frame-sync n (suc g) (drop frameBytes bs) end (tail-length bs n e) f (le-of-suc-le-suc h) ∙ ap (λ (x : ℕ). sync (codeOf x)) (omega arith))
   where
-    past : getD (map byte (take 91 bs) ++ (frames (suc g) n (drop 91 bs) ++ end)) (91 + 92 * f) (byte 0) ≡ getD (frames (suc g) n (drop 91 bs) ++ end) (92 * f) (byte 0)
-    past = rw (head-length bs n e) at (item-past (take 91 bs) (frames (suc g) n (drop 91 bs) ++ end) (92 * f) (byte 0))
+    past : getD (map byte (take frameBytes bs) ++ (frames (suc g) n (drop frameBytes bs) ++ end)) (frameBytes + 92 * f) (byte 0) ≡ getD (frames (suc g) n (drop frameBytes bs) ++ end) (92 * f) (byte 0)
+    past = rw (head-length bs n e) at (item-past (take frameBytes bs) (frames (suc g) n (drop frameBytes bs) ++ end) (92 * f) (byte 0))
 
 -- ---- permitted choices: nothing else
 
@@ -64,47 +66,47 @@ two-refused l b h = rw (le-ltb b 88 h) refl
 pub three-refused : (l b : ℕ) → 88 ≤ b → allowed 3 l (byte b) true ≡ false
 three-refused l b h = rw (le-ltb b 88 h) refl
 
--- and in States 1 and 4 the word of State 4 or 1, just where the run across the join is 2 to 10
-pub one-allowed : (l b : ℕ) → 88 ≤ b → (entryFor 1 b true ≡ entryOf 0 b 3) × (allowed 1 l (byte b) true ≡ inside 2 10 (joinRun l (wordOf 0 b 3)))
+-- and in States 1 and 4 the word of State 4 or 1, just where the zero run across the join is 2 to 10
+pub one-allowed : (l b : ℕ) → 88 ≤ b → (entryFor 1 b true ≡ entryOf 0 b 3) × (allowed 1 l (byte b) true ≡ inside 2 10 (joinZeros l (wordOf 0 b 3)))
 one-allowed l b h = (rw (le-ltb b 88 h) refl, rw (le-ltb b 88 h) refl)
 
-pub four-allowed : (l b : ℕ) → 88 ≤ b → (entryFor 4 b true ≡ entryOf 0 b 0) × (allowed 4 l (byte b) true ≡ inside 2 10 (joinRun l (wordOf 0 b 0)))
+pub four-allowed : (l b : ℕ) → 88 ≤ b → (entryFor 4 b true ≡ entryOf 0 b 0) × (allowed 4 l (byte b) true ≡ inside 2 10 (joinZeros l (wordOf 0 b 0)))
 four-allowed l b h = (rw (le-ltb b 88 h) refl, rw (le-ltb b 88 h) refl)
 
--- ---- runs that theorem RUNS excludes
+-- ---- zero runs that theorem ZERO RUNS excludes
 
-pub none-refused : (is : List Item) (i : ℕ) → runFits is i 0 ≡ false
+pub none-refused : (is : List Item) (i : ℕ) → zeroRunFits is i 0 ≡ false
 none-refused is i = refl
 
-pub one-refused : (is : List Item) (i : ℕ) → runFits is i 1 ≡ false
+pub one-refused : (is : List Item) (i : ℕ) → zeroRunFits is i 1 ≡ false
 one-refused is i = refl
 
-pub eleven-refused : (is : List Item) (i : ℕ) → runFits is i 11 ≡ false
+pub eleven-refused : (is : List Item) (i : ℕ) → zeroRunFits is i 11 ≡ false
 eleven-refused is i = refl
 
-pub twelve-refused : (is : List Item) (i : ℕ) → runFits is i 12 ≡ false
+pub twelve-refused : (is : List Item) (i : ℕ) → zeroRunFits is i 12 ≡ false
 twelve-refused is i = refl
 
-pub fourteen-refused : (is : List Item) (i : ℕ) → runFits is i 14 ≡ false
+pub fourteen-refused : (is : List Item) (i : ℕ) → zeroRunFits is i 14 ≡ false
 fourteen-refused is i = refl
 
 -- thirteen anywhere but after the fourteenth bit of a SYNC Code
-pub thirteen-refused : (is : List Item) (i : ℕ) → syncHalf is (i / 16) ≡ false → runFits is i 13 ≡ false
+pub thirteen-refused : (is : List Item) (i : ℕ) → syncHalf is (i / 16) ≡ false → zeroRunFits is i 13 ≡ false
 thirteen-refused is i h = rw h (none (eqb (i % 16) 13))
   where
     none : (b : Bool) → (b && false) ≡ false
     none true = refl
     none false = refl
 
-pub thirteen-off : (is : List Item) (i : ℕ) → (i % 16 ≡ 13 → ⊥) → runFits is i 13 ≡ false
+pub thirteen-off : (is : List Item) (i : ℕ) → (i % 16 ≡ 13 → ⊥) → zeroRunFits is i 13 ≡ false
 thirteen-off is i h = rw (ne-eqb (i % 16) 13 h) refl
 
 -- in a block, thirteen anywhere but there in one of its frames
-pub block-thirteen-refused : (i : ℕ) → (i % 1488 ≡ 13 → ⊥) → blockRunFits i 13 ≡ false
-block-thirteen-refused i h = rw (ne-eqb (i % 1488) 13 h) refl
+pub block-thirteen-refused : (i : ℕ) → (i % frameBits ≡ 13 → ⊥) → blockZeroRunFits i 13 ≡ false
+block-thirteen-refused i h = rw (ne-eqb (i % frameBits) 13 h) refl
 
-pub block-one-refused : (i : ℕ) → blockRunFits i 1 ≡ false
+pub block-one-refused : (i : ℕ) → blockZeroRunFits i 1 ≡ false
 block-one-refused i = refl
 
-pub block-eleven-refused : (i : ℕ) → blockRunFits i 11 ≡ false
+pub block-eleven-refused : (i : ℕ) → blockZeroRunFits i 11 ≡ false
 block-eleven-refused i = refl

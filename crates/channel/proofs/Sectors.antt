@@ -1,8 +1,9 @@
--- Sixteen readings of a sector are one reading of the block, and few touched rows leave few rows far from what they were.
+-- Sixteen readings of a sector are one reading of the block (part-half, part-read, read-block, read-row), few touched rows leave few rows far from what they
+-- were (far-heavy), and a permitted stream is read as its block (reads-whole).
 -- Assumes nothing.
 use mathlib.Core.Path.{_≡_, refl, sym, ap, ap₂, _∙_}
 use mathlib.Core.Bool.{Bool, true, false}
-use mathlib.Core.List.{List, _∷_, _++_}
+use mathlib.Core.List.{List, _++_}
 use Prim.Native.Nat.{ℕ, zero, suc, _+_, _*_, _<_, _≤_}
 use native.Mathlib.Omega.{arith}
 use lib.Dec.{T, eqb, eqb-refl, ltb, ltb→lt, lt→ltb}
@@ -15,57 +16,58 @@ use Rattle.lists.proofs.Count.{bit-le}
 use Rattle.lists.proofs.Fill.{length-tabulateFrom, getD-tabulateFrom, tabulate-same, tabulate-append, part-tabulate}
 use Rattle.lists.proofs.Test.{truth}
 use Rattle.annexg.specs.Read.{readWord}
-use Rattle.channel.specs.Block.{permittedChoices, permittedStream, halfOf, byteOf, halfAt, readAt, sectorPart, readSectors, readBlock, bitAt, changed, someFrom, touched, rowOf, touchedIn, heavyRows, farRows}
+use Rattle.layout.specs.Lengths.{sectorSize, sectorStream, sectorRead, rowSize, rowCount, blockSize}
+use Rattle.channel.specs.Block.{permittedChoices, permittedStream, readingByte, readAt, readSectors, readBlock, changed, someFrom, touched, touchedIn, heavyRows, farRows}
+use Rattle.layout.specs.Sectors.{halfOf, sectorPart}
+use Rattle.bytes.specs.Halves.{halfAt, bitAt}
+use Rattle.layout.specs.Rows.{rowOf}
 use Rattle.channel.proofs.Rows.{block-bytes, reading, row-damage}
 
-part-at : (xs : List ℕ) (a j : ℕ) → j < 4838 → getD (take 4838 (drop a xs)) j 0 ≡ getD xs (a + j) 0
-part-at xs a j h = getD-take 4838 (drop a xs) j 0 h ∙ getD-drop a xs j 0
+part-at : (xs : List ℕ) (a j : ℕ) → j < sectorRead → getD (take sectorRead (drop a xs)) j 0 ≡ getD xs (a + j) 0
+part-at xs a j h = getD-take sectorRead (drop a xs) j 0 h ∙ getD-drop a xs j 0
 
 pub part-half : (xs : List ℕ) (k j : ℕ) → j < 2419 → halfAt (sectorPart xs k) j ≡ halfAt xs (2418 * k + j)
 unfolding halfAt
 part-half xs k j h =
     ap₂ (λ (x y : ℕ). x * 256 + y)
-    (part-at xs (4836 * k) (2 * j) (omega arith) ∙ ap (λ (x : ℕ). getD xs x 0) (omega arith))
-    (part-at xs (4836 * k) (2 * j + 1) (omega arith) ∙ ap (λ (x : ℕ). getD xs x 0) (omega arith))
+    (part-at xs (sectorStream * k) (2 * j) (omega arith) ∙ ap (λ (x : ℕ). getD xs x 0) (omega arith))
+    (part-at xs (sectorStream * k) (2 * j + 1) (omega arith) ∙ ap (λ (x : ℕ). getD xs x 0) (omega arith))
 
-pub half-of : (k i : ℕ) → 2418 * k + halfOf i ≡ halfOf (2366 * k + i)
+pub half-of : (k i : ℕ) → 2418 * k + halfOf i ≡ halfOf (sectorSize * k + i)
 half-of k i = omega arith
 
-pub half-small : (i : ℕ) → i < 2366 → halfOf i < 2418
+pub half-small : (i : ℕ) → i < sectorSize → halfOf i < 2418
 half-small i h = omega arith
 
-pub part-read : (xs : List ℕ) (k i : ℕ) → i < 2366 → readAt (sectorPart xs k) i ≡ readAt xs (2366 * k + i)
+pub part-read : (xs : List ℕ) (k i : ℕ) → i < sectorSize → readAt (sectorPart xs k) i ≡ readAt xs (sectorSize * k + i)
 unfolding readAt
 part-read xs k i h =
     let a = half-of k i in
-    let b : 2418 * k + (halfOf i + 1) ≡ halfOf (2366 * k + i) + 1 = omega (arith, a) in
+    let b : 2418 * k + (halfOf i + 1) ≡ halfOf (sectorSize * k + i) + 1 = omega (arith, a) in
     let s = half-small i h in
-    ap₂ (λ (w f : ℕ). byteOf (readWord w f))
+    ap₂ (λ (w f : ℕ). readingByte (readWord w f))
     (part-half xs k (halfOf i) (omega (arith, s)) ∙ ap (halfAt xs) a)
     (part-half xs k (halfOf i + 1) (omega (arith, s)) ∙ ap (halfAt xs) b)
 
-cell : {x y : ℕ} {xs ys : List ℕ} → x ≡ y → xs ≡ ys → x ∷ xs ≡ y ∷ ys
-cell p q = cc
-
-sectors : (xs : List ℕ) (n k : ℕ) → readSectors xs k n ≡ tabulateFrom (readAt xs) (2366 * k) (2366 * n)
+sectors : (xs : List ℕ) (n k : ℕ) → readSectors xs k n ≡ tabulateFrom (readAt xs) (sectorSize * k) (sectorSize * n)
 unfolding readSectors
 sectors xs zero k = unfold tabulateFrom in refl
 sectors xs (suc n) k =
-    let f : 2366 * suc k ≡ 2366 * k + 2366 = omega arith in
-    let g : 2366 + 2366 * n ≡ 2366 * suc n = omega arith in
+    let f : sectorSize * suc k ≡ sectorSize * k + sectorSize = omega arith in
+    let g : sectorSize + sectorSize * n ≡ sectorSize * suc n = omega arith in
     ap₂ (λ (x y : List ℕ). x ++ y)
-    (tabulate-same (readAt (sectorPart xs k)) (readAt xs) 0 (2366 * k) 2366 (λ i h. ap (readAt (sectorPart xs k)) (omega arith) ∙ part-read xs k i h))
-    (sectors xs n (suc k) ∙ ap (λ (x : ℕ). tabulateFrom (readAt xs) x (2366 * n)) f)
-    ∙ tabulate-append (readAt xs) (2366 * k) 2366 (2366 * n) ∙ ap (tabulateFrom (readAt xs) (2366 * k)) g
+    (tabulate-same (readAt (sectorPart xs k)) (readAt xs) 0 (sectorSize * k) sectorSize (λ i h. ap (readAt (sectorPart xs k)) (omega arith) ∙ part-read xs k i h))
+    (sectors xs n (suc k) ∙ ap (λ (x : ℕ). tabulateFrom (readAt xs) x (sectorSize * n)) f)
+    ∙ tabulate-append (readAt xs) (sectorSize * k) sectorSize (sectorSize * n) ∙ ap (tabulateFrom (readAt xs) (sectorSize * k)) g
 
 -- sixteen sector readings are one reading of the block, byte by byte
-pub read-block : (xs : List ℕ) → readBlock xs ≡ tabulate (readAt xs) 37856
+pub read-block : (xs : List ℕ) → readBlock xs ≡ tabulate (readAt xs) blockSize
 read-block xs = sectors xs 16 0
 
-pub read-row : (xs : List ℕ) (r : ℕ) → r < 208 → rowOf (readBlock xs) r ≡ tabulateFrom (readAt xs) (r * 182) 182
+pub read-row : (xs : List ℕ) (r : ℕ) → r < rowCount → rowOf (readBlock xs) r ≡ tabulateFrom (readAt xs) (r * rowSize) rowSize
 read-row xs r h =
     ap (λ (x : List ℕ). rowOf x r) (read-block xs)
-    ∙ part-tabulate (readAt xs) 0 (r * 182) 182 37856 (omega arith) ∙ ap (λ (x : ℕ). tabulateFrom (readAt xs) x 182) (omega arith)
+    ∙ part-tabulate (readAt xs) 0 (r * rowSize) rowSize blockSize (omega arith) ∙ ap (λ (x : ℕ). tabulateFrom (readAt xs) x rowSize) (omega arith)
 
 bit-order : (a b : Bool) → (T a → T b) → bit a ≤ bit b
 bit-order true true f = omega arith
@@ -79,15 +81,15 @@ count-order f g k (suc n) h =
     let b = count-order f g (suc k) n (λ i j. h i (omega arith)) in
     omega arith
 
-module _ (bs : List ℕ) (cs : List Bool) (xs : List ℕ) (e : length bs ≡ 37856) (hb : Bytes bs) (p : T (permittedChoices bs cs)) (hx : Bytes xs) where
+module _ (bs : List ℕ) (cs : List Bool) (xs : List ℕ) (e : length bs ≡ blockSize) (hb : Bytes bs) (p : T (permittedChoices bs cs)) (hx : Bytes xs) where
   -- at most as many rows of what is read are far from the block's as have more than five touched bytes
   pub far-heavy : farRows (readBlock xs) bs ≤ heavyRows (permittedStream bs cs) xs
   unfolding farRows heavyRows
-  far-heavy = count-order (λ r. ltb 5 (distance (rowOf (readBlock xs) r) (rowOf bs r))) (λ r. ltb 5 (touchedIn (permittedStream bs cs) xs r)) 0 208 far
+  far-heavy = count-order (λ r. ltb 5 (distance (rowOf (readBlock xs) r) (rowOf bs r))) (λ r. ltb 5 (touchedIn (permittedStream bs cs) xs r)) 0 rowCount far
     where
-      far : (r : ℕ) → r < 0 + 208 → T (ltb 5 (distance (rowOf (readBlock xs) r) (rowOf bs r))) → T (ltb 5 (touchedIn (permittedStream bs cs) xs r))
+      far : (r : ℕ) → r < 0 + rowCount → T (ltb 5 (distance (rowOf (readBlock xs) r) (rowOf bs r))) → T (ltb 5 (touchedIn (permittedStream bs cs) xs r))
       far r h t =
-          let q : r < 208 = omega arith in
+          let q : r < rowCount = omega arith in
           let d = rw (← read-row xs r q) at (row-damage bs cs xs e hb p hx r q) in
           lt→ltb 5 (touchedIn (permittedStream bs cs) xs r) (omega (arith, d, ltb→lt 5 (distance (rowOf (readBlock xs) r) (rowOf bs r)) t))
 
@@ -105,9 +107,9 @@ unfolding touched
 untouched ys i = rw (none-of (changed ys ys) (unchanged ys) (16 * halfOf i) 16, unchanged ys (16 * halfOf i + 16)) (unchanged ys (16 * halfOf i + 28))
 
 -- a permitted stream is read as its block
-pub reads-whole : (bs : List ℕ) (cs : List Bool) → length bs ≡ 37856 → Bytes bs → T (permittedChoices bs cs) → readBlock (permittedStream bs cs) ≡ bs
+pub reads-whole : (bs : List ℕ) (cs : List Bool) → length bs ≡ blockSize → Bytes bs → T (permittedChoices bs cs) → readBlock (permittedStream bs cs) ≡ bs
 reads-whole bs cs e hb p =
     let ys = permittedStream bs cs in
     read-block ys
-    ∙ ext-getD 0 (tabulateFrom (readAt ys) 0 37856) bs (length-tabulateFrom (readAt ys) 0 37856 ∙ sym e)
-    (λ i h. let k : i < 37856 = rw (length-tabulateFrom (readAt ys) 0 37856) at h in getD-tabulateFrom (readAt ys) 0 37856 i k ∙ ap (readAt ys) (omega arith) ∙ reading bs cs ys e hb p (block-bytes bs cs e hb p) i k (untouched ys i))
+    ∙ ext-getD 0 (tabulateFrom (readAt ys) 0 blockSize) bs (length-tabulateFrom (readAt ys) 0 blockSize ∙ sym e)
+    (λ i h. let k : i < blockSize = rw (length-tabulateFrom (readAt ys) 0 blockSize) at h in getD-tabulateFrom (readAt ys) 0 blockSize i k ∙ ap (readAt ys) (omega arith) ∙ reading bs cs ys e hb p (block-bytes bs cs e hb p) i k (untouched ys i))

@@ -1,5 +1,5 @@
--- A block's permitted stream as it was laid: every Code Word is known, every SYNC place of its 416 frames holds a code of the number due there, and it has 77,380
--- bytes.
+-- A block's permitted stream as it was laid: every Code Word is known (word-known), and every SYNC place of its 416 frames holds a code of the number due
+-- there (SyncAt, sync-known).
 -- Assumes nothing.
 use mathlib.Core.Path.{_≡_, refl, sym, ap, ap₂, _∙_}
 use mathlib.Core.Bool.{Bool}
@@ -14,38 +14,30 @@ use Rattle.lists.proofs.Test.{and-left, and-right}
 use Rattle.annexg.specs.Read.{State, readWord}
 use Rattle.annexg.specs.Sync.{codeFor, syncEnd}
 use Rattle.annexg.specs.declared.Reading.the-variants.{Byte}
+use Rattle.layout.specs.Lengths.{frameBytes, frameHalves, blockSize, blockFrames}
 use Rattle.channel.specs.Channel.{Item, sync, byte, nextFor, lastFor, allowed, permitted, stream, place, proper, allProper}
-use Rattle.channel.specs.Block.{codeOf, frames, blockItems, packed, closed, permittedChoices, permittedStream, halfOf, halfAt}
-use Rattle.channel.proofs.Places.{item-past, place-past, head-length, tail-length, frame-place, frame-item, frames-length, proper-append, frames-proper}
+use Rattle.layout.specs.Sectors.{codeOf, halfOf}
+use Rattle.channel.specs.Block.{frames, blockItems, closed, permittedChoices, permittedStream}
+use Rattle.bytes.specs.Halves.{halfAt}
+use Rattle.channel.proofs.Places.{place-past, head-length, tail-length, frame-place, frame-item, frames-length, proper-append, frames-proper}
 use Rattle.channel.proofs.Reading.{next-state, reads}
-use Rattle.channel.proofs.Damage.{half-packed}
+use Rattle.bytes.proofs.Halves.{half-packed}
+use Rattle.channel.proofs.Order.{frame-sync}
 
 -- ---- the SYNC Code of frame f among the items
 
-sync-place : (n g : ℕ) (bs : List ℕ) (end : List Item) → length bs ≡ 91 * n → (f : ℕ) → f < n → place (frames g n bs ++ end) (92 * f) ≡ 93 * f
+sync-place : (n g : ℕ) (bs : List ℕ) (end : List Item) → length bs ≡ frameBytes * n → (f : ℕ) → f < n → place (frames g n bs ++ end) (92 * f) ≡ frameHalves * f
 unfolding frames place
 sync-place zero g bs end e f hf = absurd (not-suc-le-zero hf)
 sync-place (suc n) g bs end e zero hf = refl
 sync-place (suc n) g bs end e (suc f) hf =
-    let k : 92 * suc f ≡ suc (91 + 92 * f) = omega arith in
-    let m : suc (suc (91 + 93 * f)) ≡ 93 * suc f = omega arith in
-    rw (k, append-assoc (map byte (take 91 bs)) (frames (suc g) n (drop 91 bs)) end)
-    (ap (λ (x : ℕ). suc (suc x)) (past ∙ ap (λ (x : ℕ). 91 + x) (sync-place n (suc g) (drop 91 bs) end (tail-length bs n e) f (le-of-suc-le-suc hf))) ∙ m)
+    let k : 92 * suc f ≡ suc (frameBytes + 92 * f) = omega arith in
+    let m : suc (suc (frameBytes + frameHalves * f)) ≡ frameHalves * suc f = omega arith in
+    rw (k, append-assoc (map byte (take frameBytes bs)) (frames (suc g) n (drop frameBytes bs)) end)
+    (ap (λ (x : ℕ). suc (suc x)) (past ∙ ap (λ (x : ℕ). frameBytes + x) (sync-place n (suc g) (drop frameBytes bs) end (tail-length bs n e) f (le-of-suc-le-suc hf))) ∙ m)
   where
-    past : place (map byte (take 91 bs) ++ (frames (suc g) n (drop 91 bs) ++ end)) (91 + 92 * f) ≡ 91 + place (frames (suc g) n (drop 91 bs) ++ end) (92 * f)
-    past = rw (head-length bs n e) at (place-past (take 91 bs) (frames (suc g) n (drop 91 bs) ++ end) (92 * f))
-
-sync-item : (n g : ℕ) (bs : List ℕ) (end : List Item) → length bs ≡ 91 * n → (f : ℕ) → f < n → getD (frames g n bs ++ end) (92 * f) (byte 0) ≡ sync (codeOf (g + f))
-unfolding frames
-sync-item zero g bs end e f hf = absurd (not-suc-le-zero hf)
-sync-item (suc n) g bs end e zero hf = ap (λ (x : ℕ). sync (codeOf x)) (omega arith)
-sync-item (suc n) g bs end e (suc f) hf =
-    let k : 92 * suc f ≡ suc (91 + 92 * f) = omega arith in
-    rw (k, append-assoc (map byte (take 91 bs)) (frames (suc g) n (drop 91 bs)) end)
-    (past ∙ sync-item n (suc g) (drop 91 bs) end (tail-length bs n e) f (le-of-suc-le-suc hf) ∙ ap (λ (x : ℕ). sync (codeOf x)) (omega arith))
-  where
-    past : getD (map byte (take 91 bs) ++ (frames (suc g) n (drop 91 bs) ++ end)) (91 + 92 * f) (byte 0) ≡ getD (frames (suc g) n (drop 91 bs) ++ end) (92 * f) (byte 0)
-    past = rw (head-length bs n e) at (item-past (take 91 bs) (frames (suc g) n (drop 91 bs) ++ end) (92 * f) (byte 0))
+    past : place (map byte (take frameBytes bs) ++ (frames (suc g) n (drop frameBytes bs) ++ end)) (frameBytes + 92 * f) ≡ frameBytes + place (frames (suc g) n (drop frameBytes bs) ++ end) (92 * f)
+    past = rw (head-length bs n e) at (place-past (take frameBytes bs) (frames (suc g) n (drop frameBytes bs) ++ end) (92 * f))
 
 -- ---- the half words of a SYNC Code
 
@@ -83,9 +75,9 @@ syncs s l (byte a ∷ is) (c ∷ cs) hp hs p (suc j) n h e =
 
 -- ---- of a block
 
-module _ (bs : List ℕ) (cs : List Bool) (e : length bs ≡ 37856) (hb : Bytes bs) (p : T (permittedChoices bs cs)) where
+module _ (bs : List ℕ) (cs : List Bool) (e : length bs ≡ blockSize) (hb : Bytes bs) (p : T (permittedChoices bs cs)) where
   abbrev items : List Item
-  items = frames 0 416 bs ++ sync 0 ∷ []
+  items = frames 0 blockFrames bs ++ sync 0 ∷ []
 
   abbrev halves : List ℕ
   halves = stream 1 items (closed cs)
@@ -94,96 +86,37 @@ module _ (bs : List ℕ) (cs : List Bool) (e : length bs ≡ 37856) (hb : Bytes 
   one = record { low = omega arith; high = omega arith }
 
   all : T (allProper items)
-  all = proper-append (frames 0 416 bs) (sync 0 ∷ []) (frames-proper 416 0 bs e hb) (unfold allProper in tt)
+  all = proper-append (frames 0 blockFrames bs) (sync 0 ∷ []) (frames-proper blockFrames 0 bs e hb) (unfold allProper in tt)
 
   long : length items ≡ 38273
-  long = length-append (frames 0 416 bs) (sync 0 ∷ []) ∙ ap (λ (x : ℕ). x + 1) (frames-length 416 0 bs e)
+  long = length-append (frames 0 blockFrames bs) (sync 0 ∷ []) ∙ ap (λ (x : ℕ). x + 1) (frames-length blockFrames 0 bs e)
 
-  pub word-known : (i : ℕ) → i < 37856
+  pub word-known : (i : ℕ) → i < blockSize
       → readWord (halfAt (permittedStream bs cs) (halfOf i)) (halfAt (permittedStream bs cs) (halfOf i + 1)) ≡ Byte (getD bs i 0)
   unfolding blockItems
   word-known i h =
-      let f = i / 91 in
-      let q = i % 91 in
-      let hf : f < 416 = omega arith in
-      let hq : q < 91 = omega arith in
-      let at-half : place items (92 * f + suc q) ≡ halfOf i = frame-place 416 0 bs (sync 0 ∷ []) e f q hf hq ∙ omega arith in
+      let f = i / frameBytes in
+      let q = i % frameBytes in
+      let hf : f < blockFrames = omega arith in
+      let hq : q < frameBytes = omega arith in
+      let at-half : place items (92 * f + suc q) ≡ halfOf i = frame-place blockFrames 0 bs (sync 0 ∷ []) e f q hf hq ∙ omega arith in
       let at-next : suc (place items (92 * f + suc q)) ≡ halfOf i + 1 = ap suc at-half ∙ omega arith in
       let the-byte : getD items (92 * f + suc q) (sync 0) ≡ byte (getD bs i 0) =
-      frame-item 416 0 bs (sync 0 ∷ []) e f q hf hq ∙ ap (λ (x : ℕ). byte (getD bs x 0)) (omega arith) in
+      frame-item blockFrames 0 bs (sync 0 ∷ []) e f q hf hq ∙ ap (λ (x : ℕ). byte (getD bs x 0)) (omega arith) in
       ap₂ readWord (half-packed halves (halfOf i) ∙ ap (λ (x : ℕ). getD halves x 0) (sym at-half))
       (half-packed halves (halfOf i + 1) ∙ ap (λ (x : ℕ). getD halves x 0) (sym at-next))
       ∙ reads 1 0 items (closed cs) all one p (92 * f + suc q) (getD bs i 0) (omega (arith, long)) the-byte (getD halves (suc (place items (92 * f + suc q))) 0) refl
 
-  pub sync-known : (f : ℕ) → f < 416 → SyncAt (codeOf f) (halfAt (permittedStream bs cs) (93 * f)) (halfAt (permittedStream bs cs) (93 * f + 1))
+  pub sync-known : (f : ℕ) → f < blockFrames → SyncAt (codeOf f) (halfAt (permittedStream bs cs) (frameHalves * f)) (halfAt (permittedStream bs cs) (frameHalves * f + 1))
   unfolding blockItems
   sync-known f h =
-      let at-half : place items (92 * f) ≡ 93 * f = sync-place 416 0 bs (sync 0 ∷ []) e f h in
-      let the-code : getD items (92 * f) (byte 0) ≡ sync (codeOf f) = sync-item 416 0 bs (sync 0 ∷ []) e f h ∙ ap (λ (x : ℕ). sync (codeOf x)) (omega arith) in
+      let at-half : place items (92 * f) ≡ frameHalves * f = sync-place blockFrames 0 bs (sync 0 ∷ []) e f h in
+      let the-code : getD items (92 * f) (byte 0) ≡ sync (codeOf f) = frame-sync blockFrames 0 bs (sync 0 ∷ []) e f h ∙ ap (λ (x : ℕ). sync (codeOf x)) (omega arith) in
       let s = syncs 1 0 items (closed cs) all one p (92 * f) (codeOf f) (omega (arith, long)) the-code in
       record {
         state = s .state;
         choice = s .choice;
         is-state = s .is-state;
-        first = half-packed halves (93 * f) ∙ ap (λ (x : ℕ). getD halves x 0) (sym at-half) ∙ s .first;
-        second = half-packed halves (93 * f + 1) ∙ ap (λ (x : ℕ). getD halves x 0) (omega (arith, at-half)) ∙ s .second;
+        first = half-packed halves (frameHalves * f) ∙ ap (λ (x : ℕ). getD halves x 0) (sym at-half) ∙ s .first;
+        second = half-packed halves (frameHalves * f + 1) ∙ ap (λ (x : ℕ). getD halves x 0) (omega (arith, at-half)) ∙ s .second;
       }
-
--- ---- how long the stream is
-
-width : Item → ℕ
-width (sync n) = 2
-width (byte b) = 1
-
-total : List Item → ℕ
-total [] = 0
-total (i ∷ is) = width i + total is
-
-stream-length : (s l : ℕ) (is : List Item) (cs : List Bool) → T (permitted s l is cs) → length (stream s is cs) ≡ total is
-unfolding permitted stream total width
-stream-length s l [] cs p = refl
-stream-length s l (i ∷ is) [] p = absurd p
-stream-length s l (sync n ∷ is) (c ∷ cs) p = ap (λ (x : ℕ). suc (suc x)) (stream-length 1 (lastFor s (sync n) c) is cs p) ∙ omega arith
-stream-length s l (byte b ∷ is) (c ∷ cs) p =
-    ap suc (stream-length (nextFor s (byte b) c) (lastFor s (byte b) c) is cs
-    (and-right (allowed s l (byte b) c) (permitted (nextFor s (byte b) c) (lastFor s (byte b) c) is cs) p))
-    ∙ omega arith
-
-total-append : (xs ys : List Item) → total (xs ++ ys) ≡ total xs + total ys
-unfolding total
-total-append [] ys = omega arith
-total-append (x ∷ xs) ys = omega (arith, total-append xs ys)
-
-total-bytes : (xs : List ℕ) → total (map byte xs) ≡ length xs
-unfolding total width
-total-bytes [] = refl
-total-bytes (x ∷ xs) = omega (arith, total-bytes xs)
-
-total-frames : (n g : ℕ) (bs : List ℕ) → length bs ≡ 91 * n → total (frames g n bs) ≡ 93 * n
-unfolding frames total width
-total-frames zero g bs e = refl
-total-frames (suc n) g bs e =
-    omega (
-      arith,
-      total-append (map byte (take 91 bs)) (frames (suc g) n (drop 91 bs)),
-      total-bytes (take 91 bs) ∙ head-length bs n e,
-      total-frames n (suc g) (drop 91 bs) (tail-length bs n e),
-    )
-
-packed-length : (hs : List ℕ) → length (packed hs) ≡ 2 * length hs
-unfolding packed
-packed-length [] = refl
-packed-length (h ∷ hs) = omega (arith, packed-length hs)
-
--- a permitted stream of a block has 77,380 bytes
-pub permitted-length : (bs : List ℕ) (cs : List Bool) → length bs ≡ 37856 → T (permittedChoices bs cs) → length (permittedStream bs cs) ≡ 77380
-unfolding blockItems total width
-permitted-length bs cs e p =
-    let is : List Item = frames 0 416 bs ++ sync 0 ∷ [] in
-    omega (
-      arith,
-      packed-length (stream 1 is (closed cs)),
-      stream-length 1 0 is (closed cs) p,
-      total-append (frames 0 416 bs) (sync 0 ∷ []),
-      total-frames 416 0 bs e,
-    )

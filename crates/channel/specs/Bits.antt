@@ -1,10 +1,11 @@
--- The bits of a stream, and the runs of ZEROs that it may have.
+-- The bits of a stream (bitsAll, bitsBytes), and the runs of ZEROs that it may have (syncHalf, zeroRunFits, blockZeroRunFits, zeroRunsFrom, zeroRunsHold).
 -- Assumes nothing.
 use mathlib.Core.Bool.{Bool, true, false, not, _&&_, _||_}
 use mathlib.Core.List.{List, [], _∷_, _++_}
 use Prim.Native.Nat.{ℕ, zero, suc, _-_, _/_, _%_}
 use lib.Dec.{eqb}
-use Rattle.annexg.specs.Runs.{bitsOf, inside}
+use Rattle.annexg.specs.ZeroRuns.{bitsOf, inside}
+use Rattle.layout.specs.Lengths.{frameBits}
 use Rattle.channel.specs.Channel.{Item, sync, byte}
 
 -- the bits of half words, the highest first
@@ -27,19 +28,19 @@ syncHalf (byte b ∷ is) zero = false
 syncHalf (byte b ∷ is) (suc k) = syncHalf is k
 
 -- n ZEROs may stand between the ONE at bit i and the next ONE: 2 to 10, or thirteen where bit i is the fourteenth of a SYNC Code
-abbrev pub runFits : List Item → ℕ → ℕ → Bool
-runFits is i n = inside 2 10 n || (eqb n 13 && (eqb (i % 16) 13 && syncHalf is (i / 16)))
+abbrev pub zeroRunFits : List Item → ℕ → ℕ → Bool
+zeroRunFits is i n = inside 2 10 n || (eqb n 13 && (eqb (i % 16) 13 && syncHalf is (i / 16)))
 
 -- the same in a block, whose frames are 1,488 bits
-abbrev pub blockRunFits : ℕ → ℕ → Bool
-blockRunFits i n = inside 2 10 n || (eqb n 13 && eqb (i % 1488) 13)
+abbrev pub blockZeroRunFits : ℕ → ℕ → Bool
+blockZeroRunFits i n = inside 2 10 n || (eqb n 13 && eqb (i % frameBits) 13)
 
--- the bits from bit p on, where r ZEROs have passed since the last ONE, if one was seen: each run between two ONEs is one that a block may have
-unfoldable pub runsFrom : Bool → ℕ → ℕ → List ℕ → Bool
-runsFrom seen p r [] = true
-runsFrom seen p r (zero ∷ bs) = runsFrom seen (suc p) (suc r) bs
-runsFrom seen p r (suc x ∷ bs) = (not seen || blockRunFits (p - suc r) r) && runsFrom true (suc p) 0 bs
+-- the bits from bit p on, where r ZEROs have passed since the last ONE, if one was seen: each zero run between two ONEs is one that a block may have
+unfoldable pub zeroRunsFrom : Bool → ℕ → ℕ → List ℕ → Bool
+zeroRunsFrom seen p r [] = true
+zeroRunsFrom seen p r (zero ∷ bs) = zeroRunsFrom seen (suc p) (suc r) bs
+zeroRunsFrom seen p r (suc x ∷ bs) = (not seen || blockZeroRunFits (p - suc r) r) && zeroRunsFrom true (suc p) 0 bs
 
--- the runs of a stream of bytes that starts with a Sync Frame
-abbrev pub runsHold : List ℕ → Bool
-runsHold xs = runsFrom false 0 0 (bitsBytes xs)
+-- the zero runs of a stream of bytes that starts with a Sync Frame
+abbrev pub zeroRunsHold : List ℕ → Bool
+zeroRunsHold xs = zeroRunsFrom false 0 0 (bitsBytes xs)

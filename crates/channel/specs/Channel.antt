@@ -6,7 +6,7 @@ use mathlib.Core.List.{List, [], _∷_, _++_}
 use Prim.Native.Nat.{ℕ, zero, suc, _+_, _-_, _/_, _%_}
 use lib.Dec.{eqb, ltb}
 use Rattle.annexg.specs.Read.{entryOf}
-use Rattle.annexg.specs.Runs.{bitsOf, lead, trail, inside}
+use Rattle.annexg.specs.ZeroRuns.{bitsOf, lead, trail, inside}
 use Rattle.annexg.specs.Sync.{syncEnd, codeFor}
 
 -- what stands in recording order: SYNC Code SYn, or a byte
@@ -36,19 +36,19 @@ lastFor s (sync n) c = syncEnd
 lastFor s (byte b) c = entryFor s b c / 16
 
 -- the run of ZEROs across the join of two half words
-unfoldable pub joinRun : ℕ → ℕ → ℕ
-joinRun l h = trail l + lead (bitsOf 16 h)
+unfoldable pub joinZeros : ℕ → ℕ → ℕ
+joinZeros l h = trail l + lead (bitsOf 16 h)
 
 -- the States 1 and 4, in which alone a byte of 88 to 255 has a choice
 abbrev pub swaps : ℕ → Bool
 swaps s = eqb s 1 || eqb s 4
 
 -- the choices permitted for an item in State s after the half word l, as document 01 lists them: Primary or Secondary; main or substitution word for
--- bytes 0 to 87; the word of the other of States 1 and 4 for bytes 88 to 255, if the run across the join is 2 to 10. Nothing else
+-- bytes 0 to 87; the word of the other of States 1 and 4 for bytes 88 to 255, if the zero run across the join is 2 to 10. Nothing else
 abbrev pub allowed : ℕ → ℕ → Item → Bool → Bool
 allowed s l (sync n) c = true
 allowed s l (byte b) false = true
-allowed s l (byte b) true = ltb b 88 || (swaps s && inside 2 10 (joinRun l (entryFor s b true / 16)))
+allowed s l (byte b) true = ltb b 88 || (swaps s && inside 2 10 (joinZeros l (entryFor s b true / 16)))
 
 -- the choices are one for each item, each of them permitted, from State s and after the half word l
 unfoldable pub permitted : ℕ → ℕ → List Item → List Bool → Bool

@@ -6,8 +6,7 @@ use mathlib.Core.List.{List}
 use Prim.Native.Nat.{ℕ, _+_, _<_, _≤_}
 use native.Mathlib.Omega.{arith}
 use lib.Dec.{eqb}
-use lib.ListN.{length, getD, take}
-use lib.Seq.{getD-take, length-take-le}
+use lib.ListN.{length, getD}
 use Rattle.lists.specs.Bytes.{Bytes}
 use Rattle.lists.specs.Count.{distance}
 use Rattle.lists.specs.Fill.{tabulate}
@@ -16,7 +15,7 @@ use Rattle.lists.proofs.Fill.{length-tabulate, getD-tabulate}
 use Rattle.lists.proofs.Test.{truth, truth-of, below-same}
 use Rattle.codes.specs.Word.{syndrome, isCode, allZero}
 use Rattle.codes.specs.Nearest.{nearest, outcomeOf}
-use Rattle.codes.specs.Decoding.{at, rootPlaces, Places, mended}
+use Rattle.codes.specs.Inner.{at, rootPlaces, Places, mended}
 use Rattle.codes.specs.declared.Outcome.{Outcome}
 use Rattle.codes.specs.declared.Outcome.the-variants.{Clean, Corrected, Uncorrectable}
 use Rattle.codes.proofs.Words.{code-of-test, test-of-code}
@@ -83,10 +82,8 @@ module _ (p t : ℕ) (w : List ℕ) (hw : Bytes w) (short : length w ≤ 255) (r
         (sym n, sym (outcome-uncorrectable p t w hw not-code n))
 
 -- each place found is a place of the word
-pub places-below : (S : ℕ → ℕ) (t n : ℕ) (xs : List ℕ) (count : ℕ) → Places S t n (take count xs) → count ≤ length xs → (j : ℕ) → j < count → getD xs j 0 < n
-places-below S t n xs count found l j h =
+pub places-below : (S : ℕ → ℕ) (t n : ℕ) (ks : List ℕ) → Places S t n ks → (j : ℕ) → j < length ks → getD ks j 0 < n
+places-below S t n ks found j h =
     let q : List ℕ = found .locator in
-    let e : take count xs ≡ rootPlaces q n = found .roots in
-    let d : getD (rootPlaces q n) j 0 < n =
-    descending-at n (rootPlaces q n) j (roots-descending q n) (omega (arith, sym (ap length e), length-take-le count xs l)) in
-    subst (λ (x : ℕ). x < n) (sym (ap (λ (x : List ℕ). getD x j 0) e) ∙ getD-take count xs j 0 h) d
+    let e : ks ≡ rootPlaces q n = found .roots in
+    subst (λ (l : List ℕ). getD l j 0 < n) (sym e) (descending-at n (rootPlaces q n) j (roots-descending q n) (omega (arith, ap length e)))

@@ -2,8 +2,7 @@
 -- Assumes nothing.
 use mathlib.Core.Path.{_≡_, refl, sym, ap, ap₂, _∙_, subst}
 use mathlib.Core.List.{List, [], _∷_, _++_, map}
-use Prim.Native.Nat.{ℕ, zero, suc, _+_, _<_, _≤_}
-use native.Mathlib.Nat.{not-suc-le-zero}
+use Prim.Native.Nat.{ℕ, zero, suc, _+_, _<_}
 use native.Mathlib.Omega.{arith}
 use native.Mathlib.Numerals.{add-one}
 use lib.ListN.{length, length-map, length-append, replicate, length-replicate}
@@ -15,7 +14,7 @@ use Rattle.lists.proofs.Test.{below-at}
 use Rattle.lists.proofs.Bytes.{append-bytes, zeros-bytes}
 use Rattle.codes.specs.Word.{valueFrom, valueAt, syndrome}
 use Rattle.codes.specs.Parity.{addWords, shiftIn, remainder, timesRoot, generator, generatorTail, parity}
-use Rattle.field.proofs.Field.{add-assoc, add-comm, add-left-comm, add-self, add-zero, zero-add, add-cancel, add-lt, add-mul, mul-add, mul-assoc, mul-comm, mul-left-comm, mul-zero, zero-mul, mul-lt}
+use Rattle.field.proofs.Field.{add-assoc, add-comm, add-self, add-zero, zero-add, add-mul, mul-add, mul-assoc, mul-comm, mul-zero, zero-mul, mul-lt}
 use Rattle.field.proofs.Powers.{pow-suc, pow-lt}
 use Rattle.codes.proofs.Words.{IsCode, two, valueFrom-add, valueFrom-power, valueFrom-lt, addWords-length, addWords-bytes}
 

@@ -5,20 +5,21 @@ use mathlib.Core.Bool.{Bool, true, false, true≢false, false≢true, not}
 use mathlib.Core.List.{List, [], _∷_}
 use mathlib.Core.Logic.{_≢_, _⊎_, inl, inr, dite}
 use Prim.Native.Nat.{ℕ, zero, suc, _+_, _*_, _-_, _<_, _≤_}
-use native.Mathlib.Nat.{not-suc-le-zero, le-of-suc-le-suc, mul-le-mul-right}
+use native.Mathlib.Nat.{mul-le-mul-right}
 use native.Mathlib.Decide.{ℕ-discrete}
 use native.Mathlib.Omega.{arith}
 use borrow.Author.Tests.{eq-eqb, ne-eqb}
 use lib.Dec.{eqb}
 use lib.ListN.{length, getD, take, drop, replicate, length-take, length-drop, length-replicate, List·getD-eq-default}
-use lib.Seq.{ext-getD, getD-take, getD-drop}
-use Rattle.lists.specs.Count.{bit, countFrom}
+use lib.Seq.{sets, length-sets, ext-getD, getD-take, getD-drop}
+use Rattle.lists.specs.Count.{bit}
 use Rattle.lists.proofs.Fill.{length-tabulate, getD-tabulate}
 use Rattle.lists.proofs.Count.{count-le, count-none, count-flip}
+use Rattle.bytes.proofs.Copies.{getD-sets-in, getD-sets-before, getD-sets-after}
 use Rattle.field.specs.Field.{add, mul, inverse}
-use Rattle.field.proofs.Field.{add-assoc, add-left-comm, add-self, add-zero, zero-add, add-lt, add-mul, mul-add, mul-assoc, mul-comm, mul-zero, zero-mul, mul-one, mul-lt}
+use Rattle.field.proofs.Field.{add-assoc, add-left-comm, add-self, add-zero, add-lt, add-mul, mul-add, mul-assoc, mul-comm, mul-zero, zero-mul, mul-one, mul-lt}
 use Rattle.field.proofs.Inverse.{mul-inverse}
-use Rattle.codes.specs.Decoding.{dot, mix, unit, Locator, polyOf, isPivot, Pivots, Candidate, Cleared, Stored}
+use Rattle.codes.specs.Inner.{dot, mix, unit, Locator, polyOf, isPivot, Pivots, Candidate, Cleared}
 
 -- ---- one polynomial added to another
 
@@ -127,16 +128,24 @@ module _ (S : ℕ → ℕ) (t w k : ℕ) where
                 ∙ add-self (dot v S i));
           }
 
-      -- it becomes the pivot of equation i
-      module _ (m' : List ℕ) (s : Stored m (i * w) v m') where
+      -- it is put in the place of the pivot of equation i
+      module _ (m' : List ℕ) (put : m' ≡ sets m (i * w) v) where
+        size : length m' ≡ t * w
+        size = ap length put ∙ length-sets m (i * w) v ∙ p .size
+
+        byte : (q : ℕ) → getD m' q 0 ≡ getD (sets m (i * w) v) q 0
+        byte q = ap (λ (x : List ℕ). getD x q 0) put
+
         own : polyOf w m' i ≡ v
         own =
-            let n : length (polyOf w m' i) ≡ w = poly-length w m' t i (s .same ∙ p .size) l in
-            ext-getD 0 (polyOf w m' i) v (n ∙ sym (c .size)) (λ j h. poly-at w m' i j (omega arith) ∙ s .inside j (omega (arith, c .size)))
+            let n : length (polyOf w m' i) ≡ w = poly-length w m' t i size l in
+            let fits : i * w + length v ≤ length m = omega (arith, p .size, c .size, fits-part i t w l) in
+            ext-getD 0 (polyOf w m' i) v (n ∙ sym (c .size))
+            (λ j h. poly-at w m' i j (omega arith) ∙ byte (i * w + j) ∙ getD-sets-in v m (i * w) j fits (omega (arith, c .size)))
 
         others : (a : ℕ) → a < t → (a ≡ i → ⊥) → polyOf w m' a ≡ polyOf w m a
         others a h ne =
-            let n : length (polyOf w m' a) ≡ w = poly-length w m' t a (s .same ∙ p .size) h in
+            let n : length (polyOf w m' a) ≡ w = poly-length w m' t a size h in
             ext-getD 0 (polyOf w m' a) (polyOf w m a) (n ∙ sym (poly-length w m t a (p .size) h))
             (λ j b. poly-at w m' a j (omega arith) ∙ outside j (omega arith) (ℕ-lt a i ne) ∙ sym (poly-at w m a j (omega arith)))
           where
@@ -151,12 +160,12 @@ module _ (S : ℕ → ℕ) (t w k : ℕ) where
                 up (inr x) = inr (omega arith)
 
             outside : (j : ℕ) → j < w → (a < i) ⊎ (i < a) → getD m' (a * w + j) 0 ≡ getD m (a * w + j) 0
-            outside j b (inl x) = s .before (a * w + j) (omega (arith, fits-part a i w x))
-            outside j b (inr x) = s .after (a * w + j) (omega (arith, fits-part i a w x, c .size))
+            outside j b (inl x) = byte (a * w + j) ∙ getD-sets-before v m (i * w) (a * w + j) (omega (arith, fits-part a i w x))
+            outside j b (inr x) = byte (a * w + j) ∙ getD-sets-after v m (i * w) (a * w + j) (omega (arith, fits-part i a w x, c .size))
 
         pub keeps : dot (polyOf w m i) S i ≡ 0 → (dot v S i ≡ 0 → ⊥) → Pivots S t w (k + 1) m'
         keeps z nz = record {
-          size = s .same ∙ p .size;
+          size = size;
           zeros = λ a j h b. dite (ℕ-discrete a i)
               (λ q. ap (λ (x : List ℕ). dot x S j) (ap (polyOf w m') q ∙ own) ∙ c .zeros j (omega (arith, q)))
               (λ q. ap (λ (x : List ℕ). dot x S j) (others a h q) ∙ p .zeros a j h b);
@@ -194,10 +203,10 @@ module _ (S : ℕ → ℕ) (e k : ℕ) (m v : List ℕ) (i a : ℕ) (l : i < e) 
   pub cleared-holds : dot v S i ≡ 0 → Cleared S e (length v) k (i + 1) m m v true
   cleared-holds z = record { goes = λ q. (refl, holds S e (length v) k i v c z); stops = λ q. absurd (true≢false q) }
 
-  pub cleared-kept : (m' v' : List ℕ) → Stored m a v m' → dot part S i ≡ 0 → (dot v S i ≡ 0 → ⊥) → Cleared S e (length v) k (i + 1) m m' v' false
+  pub cleared-kept : (m' v' : List ℕ) → m' ≡ sets m a v → dot part S i ≡ 0 → (dot v S i ≡ 0 → ⊥) → Cleared S e (length v) k (i + 1) m m' v' false
   cleared-kept m' v' s z nz = record {
     goes = λ q. absurd (false≢true q);
-    stops = λ q. keeps S e (length v) k i v c m p l m' (subst (λ (x : ℕ). Stored m x v m') start s) (sym own-part ∙ z) nz;
+    stops = λ q. keeps S e (length v) k i v c m p l m' (s ∙ ap (λ (x : ℕ). sets m x v) start) (sym own-part ∙ z) nz;
   }
 
   pub cleared-mixed :

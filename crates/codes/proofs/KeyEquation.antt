@@ -1,16 +1,14 @@
 -- A polynomial that the sums satisfy has every error's locator for a root; and there is one.
 -- Assumes nothing.
-use mathlib.Core.Path.{_≡_, refl, sym, ap, ap₂, _∙_, subst}
+use mathlib.Core.Path.{_≡_, refl, sym, ap, ap₂, _∙_}
 use mathlib.Core.List.{List, [], _∷_, map}
-use mathlib.Core.Logic.{_≢_}
-use Prim.Native.Nat.{ℕ, zero, suc, _+_, _<_, _≤_}
-use native.Mathlib.Nat.{not-suc-le-zero, le-of-suc-le-suc}
+use Prim.Native.Nat.{ℕ, suc, _<_, _≤_}
 use native.Mathlib.Omega.{arith}
 use lib.ListN.{length, length-map}
 use Rattle.field.specs.Field.{add, mul, pow}
-use Rattle.codes.specs.Decoding.{dot, polyAt}
-use Rattle.field.proofs.Field.{add-assoc, add-comm, add-left-comm, add-self, add-swap, add-zero, zero-add, add-cancel, eq-of-add, add-lt, add-mul, mul-add, mul-assoc, mul-comm, mul-left-comm, mul-zero, zero-mul, mul-one, one-mul, mul-lt, zero-of-mul}
-use Rattle.field.proofs.Powers.{pow-zero, pow-suc, pow-lt, pow-swap, powers-differ}
+use Rattle.codes.specs.Inner.{dot, polyAt}
+use Rattle.field.proofs.Field.{add-swap, add-zero, add-mul, mul-add, mul-assoc, mul-comm, mul-left-comm, mul-zero, mul-lt}
+use Rattle.field.proofs.Powers.{pow-suc}
 use Rattle.codes.proofs.Vandermonde.{Err, sum, All, Small, Distinct, vandermonde, sum-zeros, All-map, Distinct-map}
 
 -- ---- every error's locator is a root

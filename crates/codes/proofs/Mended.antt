@@ -1,9 +1,9 @@
 -- Completeness and soundness of the decoder: a word within t bytes of a code word is mended to it, and a mended word differs in at most t bytes.
 -- Assumes nothing.
-use mathlib.Core.Path.{_≡_, refl, sym, ap, ap₂, _∙_, subst}
-use mathlib.Core.Bool.{Bool, true, false, not}
+use mathlib.Core.Path.{_≡_, refl, sym, ap, ap₂, _∙_}
+use mathlib.Core.Bool.{not}
 use mathlib.Core.List.{List, [], _∷_, map}
-use mathlib.Core.Logic.{_≢_, dite}
+use mathlib.Core.Logic.{dite}
 use Prim.Native.Nat.{ℕ, zero, suc, _+_, _-_, _<_, _≤_}
 use native.Mathlib.Decide.{ℕ-discrete}
 use native.Mathlib.Omega.{arith}
@@ -20,12 +20,12 @@ use Rattle.field.proofs.Field.{add-zero, zero-add, add-cancel, add-lt, mul-lt, 
 use Rattle.field.proofs.Powers.{alpha-lt}
 use Rattle.codes.specs.Word.{syndrome}
 use Rattle.codes.specs.Parity.{addWords}
-use Rattle.codes.specs.Decoding.{dot, polyAt, Locator, rootPlaces, withoutOthers, spread, errorValue, change, mendFrom, mended}
-use Rattle.codes.proofs.Vandermonde.{Err, sum, All, Small, Distinct}
-use Rattle.codes.proofs.Words.{IsCode, weight, errs, syndrome-cons, syndrome-nil, syndrome-errs, errs-length, errs-small, errs-distinct, syndrome-add, addWords-length, addWords-bytes}
+use Rattle.codes.specs.Inner.{dot, polyAt, Locator, rootPlaces, withoutOthers, spread, errorValue, change, mendFrom, mended}
+use Rattle.codes.proofs.Vandermonde.{Err, sum, All, Small}
+use Rattle.codes.proofs.Words.{errs, syndrome-cons, syndrome-nil, syndrome-errs, errs-length, errs-small, errs-distinct, syndrome-add, addWords-length, addWords-bytes}
 use Rattle.codes.proofs.KeyEquation.{roots}
 use Rattle.codes.proofs.Roots.{polyAt-lt, lead-nonzero, roots-hit, roots-miss, roots-few}
-use Rattle.codes.proofs.Values.{Descending, roots-descending, value-right}
+use Rattle.codes.proofs.Values.{roots-descending, value-right}
 use Rattle.codes.proofs.Nearest.{Near, distance-weight, distance-triangle}
 
 -- ---- what the search finds in the word of errors

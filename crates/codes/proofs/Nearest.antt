@@ -1,7 +1,7 @@
 -- The nearest code word: there is at most one within t bytes where 2 t ≤ p, and `nearest` gives it, or the word where there is none.
 -- Assumes nothing.
 use mathlib.Core.Path.{_≡_, refl, sym, ap, ap₂, subst, _∙_}
-use mathlib.Core.Bool.{Bool, true, false, false≢true, not, _&&_, cond}
+use mathlib.Core.Bool.{Bool, true, false, false≢true, not, cond}
 use mathlib.Core.List.{List, [], _∷_, _++_, map}
 use mathlib.Core.Logic.{_⊎_, inl, inr}
 use Prim.Native.Nat.{ℕ, zero, suc, _+_, _<_, _≤_}
@@ -19,7 +19,6 @@ use Rattle.field.proofs.Field.{add-self, eq-of-add}
 use Rattle.codes.specs.Word.{isCode}
 use Rattle.codes.specs.Parity.{addWords}
 use Rattle.codes.specs.Nearest.{preceded, allWords, firstOf, isNear, nearest, outcomeOf}
-use Rattle.codes.specs.declared.Outcome.{Outcome}
 use Rattle.codes.specs.declared.Outcome.the-variants.{Clean, Corrected, Uncorrectable}
 use Rattle.codes.proofs.Words.{IsCode, code-of-test, test-of-code, ifNonzero, weight, unique, triangle}
 

@@ -1,9 +1,8 @@
 -- A polynomial that is not 0 has fewer roots than coefficients: each root is divided off.
 -- Assumes nothing.
-use mathlib.Core.Path.{_≡_, refl, sym, ap, ap₂, _∙_, subst}
+use mathlib.Core.Path.{_≡_, refl, sym, ap, ap₂, _∙_}
 use mathlib.Core.Bool.{Bool, true, false, cond}
 use mathlib.Core.List.{List, [], _∷_, _++_, append-assoc}
-use mathlib.Core.Logic.{_≢_}
 use Prim.Native.Nat.{ℕ, zero, suc, _+_, _-_, _<_, _≤_}
 use native.Mathlib.Omega.{arith}
 use borrow.Author.Tests.{eq-eqb, ne-eqb, eqb-true, eqb-false}
@@ -15,7 +14,7 @@ use Rattle.lists.specs.Bytes.{Bytes}
 use Rattle.field.specs.Field.{add, mul, pow}
 use Rattle.field.proofs.Field.{add-assoc, add-comm, add-left-comm, add-zero, zero-add, add-cancel, eq-of-add, add-lt, add-mul, mul-add, mul-left-comm, mul-zero, mul-lt, zero-of-mul}
 use Rattle.field.proofs.Powers.{alpha-lt, powers-differ}
-use Rattle.codes.specs.Decoding.{polyAt, rootPlaces, NonZero}
+use Rattle.codes.specs.Inner.{polyAt, rootPlaces, NonZero}
 
 -- ---- division by x + a
 
@@ -57,11 +56,6 @@ divide-bytes a (c ∷ d ∷ cs) h = (polyAt-lt (d ∷ cs) a (h .1), divide-bytes
 pub AllZero : List ℕ → Type 0
 AllZero [] = Unit {0}
 AllZero (c ∷ cs) = (c ≡ 0) × AllZero cs
-
-zero-value : (x : ℕ) (c : List ℕ) → AllZero c → polyAt c x ≡ 0
-unfolding AllZero polyAt
-zero-value x [] z = refl
-zero-value x (c ∷ cs) z = ap₂ add (z .0) (ap (mul x) (zero-value x cs (z .1)) ∙ mul-zero x) ∙ zero-add 0
 
 -- where the quotient and the remainder are 0, so is the polynomial
 divide-zero : (a : ℕ) (c : List ℕ) → polyAt c a ≡ 0 → AllZero (divide a c) → AllZero c

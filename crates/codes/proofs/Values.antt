@@ -1,6 +1,6 @@
 -- The values of errors whose places are known: the syndromes without the other errors, over what each of them took along.
 -- Assumes nothing.
-use mathlib.Core.Path.{_≡_, refl, sym, ap, ap₂, _∙_, subst}
+use mathlib.Core.Path.{_≡_, refl, sym, ap, ap₂, _∙_}
 use mathlib.Core.Bool.{Bool, true, false, cond}
 use mathlib.Core.List.{List, [], _∷_, map}
 use mathlib.Core.Logic.{_≢_, dite}
@@ -9,14 +9,14 @@ use native.Mathlib.Decide.{ℕ-discrete}
 use native.Mathlib.Nat.{le-of-suc-le-suc}
 use lib.Arith.{lt-of-le-ne}
 use native.Mathlib.Omega.{arith}
-use borrow.Author.Tests.{eqb-true, eqb-false, eq-eqb}
+use borrow.Author.Tests.{eqb-true, eqb-false}
 use lib.Dec.{eqb}
 use lib.ListN.{length, getD}
 use Rattle.field.specs.Field.{add, mul, pow, inverse}
-use Rattle.field.proofs.Field.{add-self, add-zero, zero-add, eq-of-add, add-comm, add-lt, mul-assoc, mul-comm, mul-zero, zero-mul, mul-one, mul-lt, zero-of-mul}
+use Rattle.field.proofs.Field.{add-self, add-zero, zero-add, eq-of-add, add-lt, mul-assoc, mul-zero, zero-mul, mul-one, mul-lt, zero-of-mul}
 use Rattle.field.proofs.Powers.{pow-zero, alpha-lt, powers-differ}
 use Rattle.field.proofs.Inverse.{mul-inverse}
-use Rattle.codes.specs.Decoding.{without, withoutOthers, spread, errorValue, rootPlaces, polyAt}
+use Rattle.codes.specs.Inner.{without, withoutOthers, spread, errorValue, rootPlaces, polyAt}
 use Rattle.codes.proofs.Vandermonde.{Err, sum, All, Small, All-map, less, sum-less, sum-zeros}
 
 -- ---- places that fall

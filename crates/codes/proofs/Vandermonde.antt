@@ -1,15 +1,15 @@
 -- Sums of values times powers of distinct elements: if as many of them are 0 as there are elements, every value is 0.
 -- Assumes nothing.
-use mathlib.Core.Path.{_≡_, refl, sym, ap, ap₂, _∙_, subst}
+use mathlib.Core.Path.{_≡_, refl, sym, ap, ap₂, _∙_}
 use mathlib.Core.List.{List, [], _∷_, map}
 use mathlib.Core.Logic.{_≢_}
 use Prim.Native.Nat.{ℕ, zero, suc, _<_, _≤_}
-use native.Mathlib.Nat.{not-suc-le-zero, le-of-suc-le-suc}
+use native.Mathlib.Nat.{not-suc-le-zero}
 use native.Mathlib.Omega.{arith}
 use lib.ListN.{length, length-map}
 use Rattle.field.specs.Field.{add, mul, pow}
-use Rattle.field.proofs.Field.{add-assoc, add-comm, add-left-comm, add-self, add-swap, add-zero, zero-add, add-cancel, eq-of-add, add-lt, add-mul, mul-add, mul-assoc, mul-comm, mul-left-comm, mul-zero, zero-mul, mul-one, mul-lt, zero-of-mul}
-use Rattle.field.proofs.Powers.{pow-zero, pow-suc, pow-lt}
+use Rattle.field.proofs.Field.{add-self, add-swap, add-zero, zero-add, eq-of-add, add-lt, add-mul, mul-add, mul-assoc, mul-comm, mul-left-comm, mul-zero, zero-mul, mul-one, mul-lt, zero-of-mul}
+use Rattle.field.proofs.Powers.{pow-zero, pow-suc}
 
 -- an error: its locator, and its value
 pub record Err : Type 0 where

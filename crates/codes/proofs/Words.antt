@@ -4,22 +4,18 @@ use mathlib.Core.Path.{_≡_, refl, sym, ap, ap₂, _∙_, subst}
 use mathlib.Core.List.{List, [], _∷_}
 use mathlib.Core.Logic.{_≢_}
 use Prim.Native.Nat.{ℕ, zero, suc, _+_, _<_, _≤_}
-use native.Mathlib.Nat.{not-suc-le-zero, le-of-suc-le-suc, suc-inj}
 use native.Mathlib.Omega.{arith}
 use lib.ListN.{length, getD, drop, drop-of-length-le}
 use lib.Seq.{drop-cons}
 use native.Mathlib.Numerals.{add-one}
 use Rattle.field.specs.Field.{add, mul, pow}
 use lib.Dec.{T, eqb, eqb→eq}
-use borrow.Author.Tests.{eq-eqb, ne-eqb}
-use mathlib.Core.Bool.{Bool, true, false, not}
-use Rattle.lists.specs.Test.{below}
+use borrow.Author.Tests.{eq-eqb}
 use Rattle.lists.specs.Bytes.{Bytes}
-use Rattle.lists.specs.Count.{bit, distance}
 use Rattle.lists.proofs.Test.{below-at, below-all, truth-of}
 use Rattle.codes.specs.Word.{valueFrom, valueAt, syndrome, isCode}
 use Rattle.codes.specs.Parity.{addWords}
-use Rattle.field.proofs.Field.{add-assoc, add-comm, add-left-comm, add-self, add-swap, add-zero, zero-add, add-cancel, eq-of-add, add-lt, add-mul, mul-add, mul-assoc, mul-comm, mul-left-comm, mul-zero, zero-mul, mul-one, mul-lt, zero-of-mul}
+use Rattle.field.proofs.Field.{add-assoc, add-self, add-swap, add-zero, zero-add, add-cancel, eq-of-add, add-lt, add-mul, mul-assoc, zero-mul, mul-one, mul-lt}
 use Rattle.field.proofs.Powers.{pow-zero, pow-suc, pow-lt, pow-swap, powers-differ}
 use Rattle.codes.proofs.Vandermonde.{Err, sum, All, Small, Distinct, vandermonde}
 
@@ -78,10 +74,6 @@ pub valueFrom-lt : (x v : ℕ) (r : List ℕ) → v < 256 → Bytes r → valueF
 unfolding valueFrom Bytes
 valueFrom-lt x v [] l h = l
 valueFrom-lt x v (b ∷ r) l h = valueFrom-lt x (add (mul v x) b) r (add-lt (mul-lt v x) (h .0)) (h .1)
-
-pub syndrome-lt : (r : List ℕ) (i : ℕ) → Bytes r → syndrome r i < 256
-unfolding syndrome valueAt
-syndrome-lt r i h = valueFrom-lt (pow 2 i) 0 r (omega arith) h
 
 pub two : 2 < 256
 two = omega arith

@@ -1,4 +1,4 @@
 pub mod Word
 pub mod Parity
 pub mod Nearest
-pub mod Decoding
+pub mod Inner

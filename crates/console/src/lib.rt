@@ -3,17 +3,17 @@
 ghost use mathlib.Core.Path.{_≡_};
 ghost use lib.ListN.{length};
 ghost use Rattle.writer.specs.Records.{start};
-ghost use Rattle.writer.specs.Answers.{number, sectorRefusal, sectorNext, sectorOut, closingRefusal, closingNext, closingOut};
+ghost use Rattle.writer.specs.Answers.{answerNumber, sectorRefusal, sectorNext, sectorOut, closingRefusal, closingNext, closingOut};
 use writer::Answer;
 use writer::Record;
 
 // Document 01's number of an answer, as C takes it.
-pub fn answer_number(a: Answer) -> u32
-    ensures { λ r. ⌜ r ≡ number a ⌝ }
+pub fn answer_number(answer: Answer) -> u32
+    ensures { λ r. ⌜ r ≡ answerNumber answer ⌝ }
 {
-    match a {
+    match answer {
         Answer::Done => 0,
-        Answer::WrongLength => 1,
+        Answer::LengthRefused => 1,
         Answer::RunEnded => 7,
         Answer::RunUnfinished => 8,
         Answer::BadRecord => 9,
@@ -30,9 +30,11 @@ pub fn new_record(kept: &mut Record)
 
 // A sector of 2,366 bytes, laid as 4,836.
 pub fn write(kept: &mut Record, bytes: &[u8], out: &mut [u8]) -> Answer
-    ensures { λ a. ⌜ number a ≡ sectorRefusal (now (kept .entry)) (length (now (bytes .entry))) (length (now (out .entry))) ⌝ }
-    ensures { λ a. ⌜ now (kept .exit) ≡ sectorNext (now (kept .entry)) (now (bytes .entry)) (length (now (out .entry))) ⌝ }
-    ensures { λ a. ⌜ now (out .exit) ≡ sectorOut (now (kept .entry)) (now (bytes .entry)) (now (out .entry)) ⌝ }
+    ensures { λ r. ⌜ answerNumber r
+        ≡ sectorRefusal (now (kept .entry)) (length (now (bytes .entry))) (length (now (out .entry))) ⌝ }
+    ensures { λ r. ⌜ now (kept .exit)
+        ≡ sectorNext (now (kept .entry)) (now (bytes .entry)) (length (now (out .entry))) ⌝ }
+    ensures { λ r. ⌜ now (out .exit) ≡ sectorOut (now (kept .entry)) (now (bytes .entry)) (now (out .entry)) ⌝ }
 {
     let before = *kept;
     let step = writer::write_sector(before, bytes, out);
@@ -43,13 +45,13 @@ pub fn write(kept: &mut Record, bytes: &[u8], out: &mut [u8]) -> Answer
 
 // The closing code, 4 bytes.
 pub fn close(kept: &mut Record, out: &mut [u8]) -> Answer
-    ensures { λ a. ⌜ number a ≡ closingRefusal (now (kept .entry)) (length (now (out .entry))) ⌝ }
-    ensures { λ a. ⌜ now (kept .exit) ≡ closingNext (now (kept .entry)) (length (now (out .entry))) ⌝ }
-    ensures { λ a. ⌜ now (out .exit) ≡ closingOut (now (kept .entry)) (now (out .entry)) ⌝ }
+    ensures { λ r. ⌜ answerNumber r ≡ closingRefusal (now (kept .entry)) (length (now (out .entry))) ⌝ }
+    ensures { λ r. ⌜ now (kept .exit) ≡ closingNext (now (kept .entry)) (length (now (out .entry))) ⌝ }
+    ensures { λ r. ⌜ now (out .exit) ≡ closingOut (now (kept .entry)) (now (out .entry)) ⌝ }
 {
-    let running = *kept;
-    let step = writer::close(running, out);
-    let next = step.next;
-    *kept = next;
+    let before = *kept;
+    let step = writer::close(before, out);
+    let closed = step.next;
+    *kept = closed;
     step.answer
 }

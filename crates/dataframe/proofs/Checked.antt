@@ -36,31 +36,31 @@ agree-not xs ys i l h n = ne-eqb (distance xs ys) 0 (λ e. omega (arith, distanc
 pub agree-all : (xs ys : List ℕ) → length xs ≡ length ys → ((i : ℕ) → i < length xs → getD xs i 0 ≡ getD ys i 0) → agree xs ys ≡ true
 agree-all xs ys l h = agree-same (ext-getD 0 xs ys l h)
 
--- ---- check 5, case by case
+-- ---- check 5 of a frame with the number n, case by case
 
-module _ (first info k : ℕ) (f : List ℕ) where
+module _ (first info k : ℕ) (f : List ℕ) (n : ℕ) (number : n ≡ numberOf f) where
   abbrev firstPasses : Bool
-  firstPasses = not (eqb k 0) || eqb (numberOf f % 16) 0
+  firstPasses = not (eqb k 0) || eqb (n % 16) 0
 
   pub id-first : firstPasses ≡ false → false ≡ idPasses first info k f
   unfolding idPasses
-  id-first e = rw e
+  id-first e = rw (← number, e)
 
-  pub id-number : firstPasses ≡ true → numberOf f ≢ first + k → false ≡ idPasses first info k f
+  pub id-number : firstPasses ≡ true → n ≢ first + k → false ≡ idPasses first info k f
   unfolding idPasses
-  id-number e n = rw (e, ne-eqb (numberOf f) (first + k) n)
+  id-number e d = rw (← number, e, ne-eqb n (first + k) d)
 
-  pub id-prohibited : firstPasses ≡ true → numberOf f ≡ first + k → bitAnd (infoOf f) 0xD2 ≢ 0 → false ≡ idPasses first info k f
+  pub id-prohibited : firstPasses ≡ true → n ≡ first + k → bitAnd (infoOf f) 0xD2 ≢ 0 → false ≡ idPasses first info k f
   unfolding idPasses
-  id-prohibited e n p = rw (e, eq-eqb (numberOf f) (first + k) n, ne-eqb (bitAnd (infoOf f) 0xD2) 0 p)
+  id-prohibited e d p = rw (← number, e, eq-eqb n (first + k) d, ne-eqb (bitAnd (infoOf f) 0xD2) 0 p)
 
-  pub id-unlike : firstPasses ≡ true → numberOf f ≡ first + k → bitAnd (infoOf f) 0xD2 ≡ 0 → infoOf f ≢ info → false ≡ idPasses first info k f
+  pub id-unlike : firstPasses ≡ true → n ≡ first + k → bitAnd (infoOf f) 0xD2 ≡ 0 → infoOf f ≢ info → false ≡ idPasses first info k f
   unfolding idPasses
-  id-unlike e n p i = rw (e, eq-eqb (numberOf f) (first + k) n, eq-eqb (bitAnd (infoOf f) 0xD2) 0 p, ne-eqb (infoOf f) info i)
+  id-unlike e d p i = rw (← number, e, eq-eqb n (first + k) d, eq-eqb (bitAnd (infoOf f) 0xD2) 0 p, ne-eqb (infoOf f) info i)
 
-  pub id-passes : firstPasses ≡ true → numberOf f ≡ first + k → bitAnd (infoOf f) 0xD2 ≡ 0 → infoOf f ≡ info → true ≡ idPasses first info k f
+  pub id-passes : firstPasses ≡ true → n ≡ first + k → bitAnd (infoOf f) 0xD2 ≡ 0 → infoOf f ≡ info → true ≡ idPasses first info k f
   unfolding idPasses
-  id-passes e n p i = rw (e, eq-eqb (numberOf f) (first + k) n, eq-eqb (bitAnd (infoOf f) 0xD2) 0 p, eq-eqb (infoOf f) info i)
+  id-passes e d p i = rw (← number, e, eq-eqb n (first + k) d, eq-eqb (bitAnd (infoOf f) 0xD2) 0 p, eq-eqb (infoOf f) info i)
 
 -- ---- the lowest number that applies, case by case
 

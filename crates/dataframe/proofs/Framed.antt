@@ -1,13 +1,15 @@
 -- Data Frames: lengths, fields, and what the code builds.
 -- Assumes nothing.
 use mathlib.Core.Path.{_≡_, refl, sym, ap, ap₂, _∙_}
-use mathlib.Core.List.{List, [], _∷_, _++_, append-assoc, append-nil}
-use Prim.Native.Nat.{ℕ, _+_, _/_, _%_, _<_, _≤_}
+use mathlib.Core.List.{List, [], _∷_, _++_, append-assoc}
+use Prim.Native.Nat.{ℕ, _+_, _/_, _%_, _<_}
 use native.Mathlib.Omega.{arith}
-use lib.ListN.{length, getD, take, drop, length-append, drop-of-length-le, List·getD-append}
-use lib.Seq.{take-all, take-at, drop-at, paste, length-paste, take-paste}
+use lib.ListN.{length, getD, take, drop, length-append, List·getD-append}
+use lib.Seq.{take-all, take-at, drop-at, sets, length-sets}
 use Rattle.lists.specs.Bytes.{Bytes}
 use Rattle.lists.proofs.Bytes.{append-bytes, zeros-bytes}
+use Rattle.bytes.proofs.Copies.{take-sets}
+use Rattle.layout.specs.Lengths.{headSize, frameMainSize, edcPlace, frameSize}
 use Rattle.codes.specs.Parity.{parity}
 use Rattle.codes.proofs.Division.{two-roots, parity-length, parity-bytes}
 use Rattle.edc.specs.Edc.{edcOf}
@@ -23,7 +25,7 @@ id-length info n = refl
 pub ied-length : (id : List ℕ) → length (iedOf id) ≡ 2
 ied-length id = parity-length 2 two-roots id
 
-pub head-length : (info n : ℕ) → length (headOf info n) ≡ 12
+pub head-length : (info n : ℕ) → length (headOf info n) ≡ headSize
 unfolding headOf
 head-length info n =
     length-append (idOf info n) (iedOf (idOf info n) ++ cprMai)
@@ -54,11 +56,11 @@ head-built info n a b c e p q r s =
 
 -- ---- the frame over 2,048 main data bytes d
 
-module _ (d : List ℕ) (info n : ℕ) (len : length d ≡ 2048) where
-  front-length : length (headOf info n ++ d) ≡ 2060
+module _ (d : List ℕ) (info n : ℕ) (len : length d ≡ frameMainSize) where
+  front-length : length (headOf info n ++ d) ≡ edcPlace
   front-length = length-append (headOf info n) d ∙ ap₂ (λ (x y : ℕ). x + y) (head-length info n) len
 
-  pub data-length : length (dataFrame d info n) ≡ 2064
+  pub data-length : length (dataFrame d info n) ≡ frameSize
   unfolding dataFrame
   data-length =
       length-append (headOf info n ++ d) (edcOf (headOf info n ++ d)) ∙ ap₂ (λ (x y : ℕ). x + y) front-length (edc-length (headOf info n ++ d))
@@ -69,46 +71,44 @@ module _ (d : List ℕ) (info n : ℕ) (len : length d ≡ 2048) where
       append-bytes (headOf info n ++ d) (edcOf (headOf info n ++ d)) (append-bytes (headOf info n) d (head-bytes info n hi) hd)
       (edc-bytes (headOf info n ++ d))
 
-  pub data-head : (i : ℕ) → i < 12 → getD (dataFrame d info n) i 0 ≡ getD (headOf info n) i 0
+  pub data-head : (i : ℕ) → i < headSize → getD (dataFrame d info n) i 0 ≡ getD (headOf info n) i 0
   unfolding dataFrame
   data-head i h =
       List·getD-append (headOf info n ++ d) (edcOf (headOf info n ++ d)) 0 i (omega (arith, front-length))
       ∙ List·getD-append (headOf info n) d 0 i (omega (arith, head-length info n))
 
   -- its fields: the bytes before EDC, EDC, and the main data
-  pub data-front : take 2060 (dataFrame d info n) ≡ headOf info n ++ d
+  pub data-front : take edcPlace (dataFrame d info n) ≡ headOf info n ++ d
   unfolding dataFrame
-  data-front = take-at (headOf info n ++ d) (edcOf (headOf info n ++ d)) 2060 front-length
+  data-front = take-at (headOf info n ++ d) (edcOf (headOf info n ++ d)) edcPlace front-length
 
-  pub data-edc : drop 2060 (dataFrame d info n) ≡ edcOf (headOf info n ++ d)
+  pub data-edc : drop edcPlace (dataFrame d info n) ≡ edcOf (headOf info n ++ d)
   unfolding dataFrame
-  data-edc = drop-at (headOf info n ++ d) (edcOf (headOf info n ++ d)) 2060 front-length
+  data-edc = drop-at (headOf info n ++ d) (edcOf (headOf info n ++ d)) edcPlace front-length
 
-  pub data-main : take 2048 (drop 12 (dataFrame d info n)) ≡ d
+  pub data-main : take frameMainSize (drop headSize (dataFrame d info n)) ≡ d
   unfolding dataFrame
   data-main =
-      ap (λ (x : List ℕ). take 2048 (drop 12 x)) (append-assoc (headOf info n) d (edcOf (headOf info n ++ d)))
-      ∙ ap (take 2048) (drop-at (headOf info n) (d ++ edcOf (headOf info n ++ d)) 12 (head-length info n))
-      ∙ take-at d (edcOf (headOf info n ++ d)) 2048 len
+      ap (λ (x : List ℕ). take frameMainSize (drop headSize x)) (append-assoc (headOf info n) d (edcOf (headOf info n ++ d)))
+      ∙ ap (take frameMainSize) (drop-at (headOf info n) (d ++ edcOf (headOf info n ++ d)) headSize (head-length info n))
+      ∙ take-at d (edcOf (headOf info n ++ d)) frameMainSize len
 
   -- what `data_frame` builds: the head, the main data and EDC put into a frame one after the other
   pub data-built :
-      (z h e f g r : List ℕ) → length z ≡ 2064 → h ≡ headOf info n → f ≡ paste z 0 h (length h) → g ≡ paste f 12 d (length d) → e ≡ edcOf (take 2060 g)
-      → r ≡ paste g 2060 e (length e) → r ≡ dataFrame d info n
+      (z h e f g r : List ℕ) → length z ≡ frameSize → h ≡ headOf info n → f ≡ sets z 0 h → g ≡ sets f headSize d → e ≡ edcOf (take edcPlace g)
+      → r ≡ sets g edcPlace e → r ≡ dataFrame d info n
   unfolding dataFrame
   data-built z h e f g r lz ph pf pg pe pr =
-      let lh : length h ≡ 12 = ap length ph ∙ head-length info n in
-      let le : length e ≡ 4 = ap length pe ∙ edc-length (take 2060 g) in
-      let lf : length f ≡ 2064 = ap length pf ∙ length-paste z 0 h (length h) (omega arith) (omega arith) ∙ lz in
-      let lg : length g ≡ 2064 = ap length pg ∙ length-paste f 12 d (length d) (omega arith) (omega arith) ∙ lf in
-      let n₁ : 12 ≡ 0 + length h = omega arith in
-      let n₂ : 2060 ≡ 12 + length d = omega (arith, len) in
-      let tf : take 12 f ≡ h =
-      ap₂ take n₁ pf ∙ take-paste z 0 h (length h) (omega arith) (omega arith) ∙ take-all (length h) h (omega arith) in
-      let tg : take 2060 g ≡ headOf info n ++ d =
-      ap₂ take n₂ pg ∙ take-paste f 12 d (length d) (omega arith) (omega arith)
-      ∙ ap₂ (λ (x y : List ℕ). x ++ y) (tf ∙ ph) (take-all (length d) d (omega arith)) in
-      let n₃ : length g ≤ 2060 + length e = omega arith in
-      let td : drop (2060 + length e) g ≡ [] = drop-of-length-le g n₃ in
-      pr ∙ ap (λ (x : List ℕ). take 2060 g ++ take (length e) e ++ x) td ∙ append-nil (take 2060 g ++ take (length e) e)
-      ∙ ap₂ (λ (x y : List ℕ). x ++ y) tg (take-all (length e) e (omega arith) ∙ pe ∙ ap edcOf tg)
+      let lh : length h ≡ headSize = ap length ph ∙ head-length info n in
+      let le : length e ≡ 4 = ap length pe ∙ edc-length (take edcPlace g) in
+      let lf : length f ≡ frameSize = ap length pf ∙ length-sets z 0 h ∙ lz in
+      let lg : length g ≡ frameSize = ap length pg ∙ length-sets f headSize d ∙ lf in
+      let lr : length r ≡ frameSize = ap length pr ∙ length-sets g edcPlace e ∙ lg in
+      let n₁ : headSize ≡ 0 + length h = omega arith in
+      let n₂ : edcPlace ≡ headSize + length d = omega (arith, len) in
+      let n₃ : frameSize ≡ edcPlace + length e = omega arith in
+      let tf : take headSize f ≡ headOf info n = ap₂ take n₁ pf ∙ take-sets h z 0 (omega arith) ∙ ph in
+      let tg : take edcPlace g ≡ headOf info n ++ d =
+      ap₂ take n₂ pg ∙ take-sets d f headSize (omega (arith, len)) ∙ ap (λ (x : List ℕ). x ++ d) tf in
+      sym (take-all frameSize r (omega arith)) ∙ ap₂ take n₃ pr ∙ take-sets e g edcPlace (omega arith)
+      ∙ ap₂ (λ (x y : List ℕ). x ++ y) tg (pe ∙ ap edcOf tg)

@@ -11,6 +11,7 @@ use lib.ListN.{length, getD, take, drop, length-drop, List·getD-append}
 use lib.Seq.{ext-getD, getD-append-add, getD-take, getD-drop, length-take-le}
 use Rattle.lists.specs.Bytes.{Bytes}
 use Rattle.lists.proofs.Fill.{length-tabulate, getD-tabulate}
+use Rattle.layout.specs.Lengths.{headSize, frameMainSize, edcPlace, frameSize}
 use Rattle.edc.specs.Edc.{edcOf}
 use Rattle.scrambling.specs.Scrambling.{scrambledAt, scrambled}
 use Rattle.scrambling.proofs.Scrambled.{scrambled-head, scrambled-end, scrambled-bytes, scrambled-twice}
@@ -23,37 +24,38 @@ or-true : (b : Bool) → (b || true) ≡ true
 or-true true = refl
 or-true false = refl
 
-module _ (d : List ℕ) (info n : ℕ) (len : length d ≡ 2048) where
+module _ (d : List ℕ) (info n : ℕ) (len : length d ≡ frameMainSize) where
   abbrev frame : List ℕ
   frame = scrambled n (dataFrame d info n)
 
-  pub frame-length : length frame ≡ 2064
-  frame-length = length-tabulate (scrambledAt n (dataFrame d info n)) 2064
+  pub frame-length : length frame ≡ frameSize
+  frame-length = length-tabulate (scrambledAt n (dataFrame d info n)) frameSize
 
   pub frame-bytes : Bytes d → info < 256 → Bytes frame
   frame-bytes hd hi = scrambled-bytes n (dataFrame d info n) (data-bytes d info n len hd hi)
 
   -- scrambling leaves the first twelve bytes and EDC
-  frame-head : (i : ℕ) → i < 12 → getD frame i 0 ≡ getD (headOf info n) i 0
+  frame-head : (i : ℕ) → i < headSize → getD frame i 0 ≡ getD (headOf info n) i 0
   frame-head i l =
-      getD-tabulate (scrambledAt n (dataFrame d info n)) 2064 i (omega arith) ∙ scrambled-head n (dataFrame d info n) i l ∙ data-head d info n len i l
+      getD-tabulate (scrambledAt n (dataFrame d info n)) frameSize i (omega arith) ∙ scrambled-head n (dataFrame d info n) i l ∙ data-head d info n len i l
 
-  frame-edc : drop 2060 frame ≡ edcOf (headOf info n ++ d)
-  frame-edc = ext-getD 0 (drop 2060 frame) (drop 2060 (dataFrame d info n)) (size ∙ sym size₂) (λ i l. each i (rw size at l)) ∙ data-edc d info n len
+  frame-edc : drop edcPlace frame ≡ edcOf (headOf info n ++ d)
+  frame-edc = ext-getD 0 (drop edcPlace frame) (drop edcPlace (dataFrame d info n)) (size ∙ sym size₂) (λ i l. each i (rw size at l)) ∙ data-edc d info n len
     where
-      size : length (drop 2060 frame) ≡ 4
-      size = length-drop 2060 frame ∙ ap (λ (x : ℕ). x - 2060) frame-length
+      size : length (drop edcPlace frame) ≡ 4
+      size = length-drop edcPlace frame ∙ ap (λ (x : ℕ). x - edcPlace) frame-length
 
-      size₂ : length (drop 2060 (dataFrame d info n)) ≡ 4
-      size₂ = length-drop 2060 (dataFrame d info n) ∙ ap (λ (x : ℕ). x - 2060) (data-length d info n len)
+      size₂ : length (drop edcPlace (dataFrame d info n)) ≡ 4
+      size₂ = length-drop edcPlace (dataFrame d info n) ∙ ap (λ (x : ℕ). x - edcPlace) (data-length d info n len)
 
-      each : (i : ℕ) → i < 4 → getD (drop 2060 frame) i 0 ≡ getD (drop 2060 (dataFrame d info n)) i 0
+      each : (i : ℕ) → i < 4 → getD (drop edcPlace frame) i 0 ≡ getD (drop edcPlace (dataFrame d info n)) i 0
       each i l =
-          getD-drop 2060 frame i 0 ∙ getD-tabulate (scrambledAt n (dataFrame d info n)) 2064 (2060 + i) (omega arith)
-          ∙ scrambled-end n (dataFrame d info n) (2060 + i) (omega arith) ∙ sym (getD-drop 2060 (dataFrame d info n) i 0)
+          getD-drop edcPlace frame i 0 ∙ getD-tabulate (scrambledAt n (dataFrame d info n)) frameSize (edcPlace + i) (omega arith)
+          ∙ scrambled-end n (dataFrame d info n) (edcPlace + i) (omega arith) ∙ sym (getD-drop edcPlace (dataFrame d info n) i 0)
 
   -- a part of the first twelve bytes, given by the head alone
-  part : (s m : ℕ) (xs : List ℕ) → length xs ≡ m → s + m ≤ 12 → ((i : ℕ) → i < m → getD (headOf info n) (s + i) 0 ≡ getD xs i 0) → take m (drop s frame) ≡ xs
+  part : (s m : ℕ) (xs : List ℕ) → length xs ≡ m → s + m ≤ headSize → ((i : ℕ) → i < m → getD (headOf info n) (s + i) 0 ≡ getD xs i 0)
+      → take m (drop s frame) ≡ xs
   part s m xs e l h = ext-getD 0 (take m (drop s frame)) xs (size ∙ sym e) (λ i k. each i (rw size at k))
     where
       size : length (take m (drop s frame)) ≡ m
@@ -85,7 +87,7 @@ module _ (d : List ℕ) (info n : ℕ) (len : length d ≡ 2048) where
   unfolding headOf idOf
   frame-info = frame-head 0 (omega arith)
 
-  pub frame-ied-passes : iedPasses frame ≡ true
+  frame-ied-passes : iedPasses frame ≡ true
   unfolding iedPasses
   frame-ied-passes = agree-same (frame-ied ∙ ap iedOf (sym frame-id))
 
@@ -98,22 +100,22 @@ module _ (d : List ℕ) (info n : ℕ) (len : length d ≡ 2048) where
         let c : getD frame 3 0 ≡ n % 256 = frame-head 3 (omega arith) in
         omega arith
 
-    pub frame-unscrambled : unscrambled frame ≡ dataFrame d info n
+    frame-unscrambled : unscrambled frame ≡ dataFrame d info n
     unfolding unscrambled
     frame-unscrambled = ap (λ (x : ℕ). scrambled x frame) frame-number ∙ scrambled-twice n (dataFrame d info n) (data-length d info n len)
 
     -- unscrambling gives the main data back
     pub frame-main : mainOf frame ≡ d
     unfolding mainOf
-    frame-main = ap (λ (x : List ℕ). take 2048 (drop 12 x)) frame-unscrambled ∙ data-main d info n len
+    frame-main = ap (λ (x : List ℕ). take frameMainSize (drop headSize x)) frame-unscrambled ∙ data-main d info n len
 
-    pub frame-edc-passes : edcPasses frame ≡ true
+    frame-edc-passes : edcPasses frame ≡ true
     unfolding edcPasses
-    frame-edc-passes = agree-same (frame-edc ∙ ap edcOf (sym (ap (take 2060) frame-unscrambled ∙ data-front d info n len)))
+    frame-edc-passes = agree-same (frame-edc ∙ ap edcOf (sym (ap (take edcPlace) frame-unscrambled ∙ data-front d info n len)))
 
 -- frame k of a block whose first number is a multiple of 16 passes every check
 pub frame-passes :
-    (d : List ℕ) (first info k : ℕ) → length d ≡ 2048 → first % 16 ≡ 0 → first + k < 16777216 → isPermitted info ≡ true
+    (d : List ℕ) (first info k : ℕ) → length d ≡ frameMainSize → first % 16 ≡ 0 → first + k < 16777216 → isPermitted info ≡ true
     → frameRefusal first info k (scrambled (first + k) (dataFrame d info (first + k))) ≡ 0
 unfolding idPasses
 frame-passes d first info k len sixteen small plain =

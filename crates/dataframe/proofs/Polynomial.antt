@@ -13,6 +13,7 @@ use lib.Seq.{ext-getD, getD-drop}
 use Rattle.lists.specs.Bytes.{Bytes}
 use Rattle.lists.proofs.Bytes.{append-bytes, take-bytes, drop-bytes}
 use Rattle.lists.proofs.Fill.{length-tabulate, getD-tabulate}
+use Rattle.layout.specs.Lengths.{edcPlace, frameSize}
 use Rattle.edc.specs.Edc.{edcOf}
 use Rattle.edc.specs.Polynomial.{bitField, Multiple}
 use Rattle.edc.proofs.Steps.{edc-length}
@@ -37,40 +38,40 @@ agree-equal xs ys l a =
     ext-getD 0 xs ys l
     (λ i h. dite (ℕ-discrete (getD xs i 0) (getD ys i 0)) (λ e. e) (λ n. absurd (false≢true (sym (agree-not xs ys i l h n) ∙ a))))
 
-module _ (f : List ℕ) (len : length f ≡ 2064) (bytes : Bytes f) where
+module _ (f : List ℕ) (len : length f ≡ frameSize) (bytes : Bytes f) where
   abbrev front : List ℕ
-  front = take 2060 (unscrambled f)
+  front = take edcPlace (unscrambled f)
 
   unscrambled-bytes : Bytes (unscrambled f)
   unfolding unscrambled
   unscrambled-bytes = scrambled-bytes (numberOf f) f bytes
 
-  end-length : length (drop 2060 f) ≡ 4
-  end-length = length-drop 2060 f ∙ ap (λ (x : ℕ). x - 2060) len
+  end-length : length (drop edcPlace f) ≡ 4
+  end-length = length-drop edcPlace f ∙ ap (λ (x : ℕ). x - edcPlace) len
 
   -- EDC is not scrambled
-  unscrambled-end : drop 2060 (unscrambled f) ≡ drop 2060 f
+  unscrambled-end : drop edcPlace (unscrambled f) ≡ drop edcPlace f
   unfolding unscrambled
   unscrambled-end =
       let u : List ℕ = unscrambled f in
-      let size : length (drop 2060 u) ≡ 4 = length-drop 2060 u ∙ ap (λ (x : ℕ). x - 2060) (length-tabulate (scrambledAt (numberOf f) f) 2064) in
-      ext-getD 0 (drop 2060 u) (drop 2060 f) (size ∙ sym end-length)
-      (λ i h. getD-drop 2060 u i 0 ∙ getD-tabulate (scrambledAt (numberOf f) f) 2064 (2060 + i) (omega (arith, size))
-      ∙ scrambled-end (numberOf f) f (2060 + i) (omega arith) ∙ sym (getD-drop 2060 f i 0))
+      let size : length (drop edcPlace u) ≡ 4 = length-drop edcPlace u ∙ ap (λ (x : ℕ). x - edcPlace) (length-tabulate (scrambledAt (numberOf f) f) frameSize) in
+      ext-getD 0 (drop edcPlace u) (drop edcPlace f) (size ∙ sym end-length)
+      (λ i h. getD-drop edcPlace u i 0 ∙ getD-tabulate (scrambledAt (numberOf f) f) frameSize (edcPlace + i) (omega (arith, size))
+      ∙ scrambled-end (numberOf f) f (edcPlace + i) (omega arith) ∙ sym (getD-drop edcPlace f i 0))
 
-  whole : front ++ drop 2060 f ≡ unscrambled f
-  whole = ap (λ (x : List ℕ). front ++ x) (sym unscrambled-end) ∙ take-append-drop 2060 (unscrambled f)
+  whole : front ++ drop edcPlace f ≡ unscrambled f
+  whole = ap (λ (x : List ℕ). front ++ x) (sym unscrambled-end) ∙ take-append-drop edcPlace (unscrambled f)
 
   pub check-multiple : edcPasses f ≡ true → Multiple (bitField (unscrambled f))
   unfolding edcPasses
   check-multiple a =
-      let e : drop 2060 f ≡ edcOf front = agree-equal (drop 2060 f) (edcOf front) (end-length ∙ sym (edc-length front)) a in
+      let e : drop edcPlace f ≡ edcOf front = agree-equal (drop edcPlace f) (edcOf front) (end-length ∙ sym (edc-length front)) a in
       subst (λ (x : List ℕ). Multiple (bitField x)) (ap (λ (x : List ℕ). front ++ x) (sym e) ∙ whole)
-      (edc-multiple front (take-bytes 2060 (unscrambled f) unscrambled-bytes))
+      (edc-multiple front (take-bytes edcPlace (unscrambled f) unscrambled-bytes))
 
   pub multiple-checked : Multiple (bitField (unscrambled f)) → edcPasses f ≡ true
   unfolding edcPasses
   multiple-checked m =
       agree-same
-      (edc-unique front (drop 2060 f) (take-bytes 2060 (unscrambled f) unscrambled-bytes) (drop-bytes 2060 f bytes) end-length
+      (edc-unique front (drop edcPlace f) (take-bytes edcPlace (unscrambled f) unscrambled-bytes) (drop-bytes edcPlace f bytes) end-length
       (subst (λ (x : List ℕ). Multiple (bitField x)) (sym whole) m))

@@ -1,14 +1,17 @@
--- What is checked of a frame that was read (document 01, 'Refused because of the input', numbers 4 to 6), and its main data. A frame here is scrambled, and
--- CPR_MAI is not checked.
+-- What is checked of a frame that was read (document 01, 'Refused because of the input', numbers 4 to 6), its main data, and that of a block buffer. A frame here
+-- is scrambled, and CPR_MAI is not checked.
 -- Assumes nothing.
 use mathlib.Core.Bool.{Bool, _&&_, _||_, not, cond}
 use mathlib.Core.List.{List}
-use Prim.Native.Nat.{ℕ, _+_, _*_, _%_}
+use Prim.Native.Nat.{ℕ, _+_, _*_, _/_, _%_}
 use lib.Dec.{eqb}
 use lib.ListN.{getD, take, drop}
 use Rattle.lists.specs.Count.{distance}
+use Rattle.lists.specs.Fill.{tabulate}
 use Rattle.edc.specs.Edc.{edcOf}
 use Rattle.scrambling.specs.Scrambling.{scrambled}
+use Rattle.layout.specs.Lengths.{headSize, frameMainSize, edcPlace, mainSize}
+use Rattle.layout.specs.Rows.{frameOf}
 use Rattle.dataframe.specs.Frame.{isPermitted, iedOf}
 use Rattle.dataframe.specs.declared.FrameCheck.{FrameCheck}
 use Rattle.dataframe.specs.declared.FrameCheck.the-variants.{Passed, IedDiffers, IdWrong, EdcDiffers}
@@ -25,7 +28,11 @@ unfoldable pub unscrambled : List ℕ → List ℕ
 unscrambled f = scrambled (numberOf f) f
 
 unfoldable pub mainOf : List ℕ → List ℕ
-mainOf f = take 2048 (drop 12 (unscrambled f))
+mainOf f = take frameMainSize (drop headSize (unscrambled f))
+
+-- the main data of all sixteen frames of a block buffer, unscrambled
+unfoldable pub mainOfBlock : List ℕ → List ℕ
+mainOfBlock xs = tabulate (λ p. getD (mainOf (frameOf xs (p / frameMainSize))) (p % frameMainSize) 0) mainSize
 
 -- two lists of one length differ in no place
 unfoldable pub agree : List ℕ → List ℕ → Bool
@@ -43,7 +50,7 @@ idPasses first info k f =
 
 -- 6: EDC differs
 unfoldable pub edcPasses : List ℕ → Bool
-edcPasses f = agree (drop 2060 f) (edcOf (take 2060 (unscrambled f)))
+edcPasses f = agree (drop edcPlace f) (edcOf (take edcPlace (unscrambled f)))
 
 -- the lowest number that applies to frame k, or 0 where none does
 unfoldable pub frameRefusal : ℕ → ℕ → ℕ → List ℕ → ℕ

@@ -14,9 +14,8 @@ use Rattle.lists.proofs.Fill.{length-tabulate, getD-tabulate, is-tabulate, tabu
 use Rattle.field.specs.Field.{add}
 use Rattle.codes.specs.Parity.{shiftIn, remainder, generatorTail, parity}
 use Rattle.codes.proofs.Division.{remainder-length, remainder-bytes}
-use Rattle.multiples.specs.Multiples.{top, high, low, half, multiples}
-use Rattle.division.specs.Packed.{Packed, beside, registerAt}
-use Rattle.division.specs.Unpacked.{unpacked}
+use Rattle.multiples.specs.Inner.{top, high, low, half, multiples}
+use Rattle.division.specs.Inner.{Packed, beside, registerAt, unpacked}
 use Rattle.multiples.proofs.Numbers.{number-zeros}
 use Rattle.division.proofs.Step.{tail-length, packed-next}
 use Rattle.division.proofs.Unpacked.{packed-unpacked, unpacked-whole}

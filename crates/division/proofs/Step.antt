@@ -17,8 +17,8 @@ use Rattle.codes.specs.Parity.{timesRoot, shiftIn, remainder, generator, genera
 use Rattle.codes.proofs.Words.{addWords-length}
 use Rattle.codes.proofs.Division.{remainder-bytes}
 use Rattle.codes.proofs.Shift.{shiftAt, shift-is, shift-size, map-at}
-use Rattle.multiples.specs.Multiples.{top, number, high, low, multiples}
-use Rattle.division.specs.Packed.{Packed}
+use Rattle.multiples.specs.Inner.{top, bytesAsNumber, high, low, multiples}
+use Rattle.division.specs.Inner.{Packed}
 use Rattle.multiples.proofs.Numbers.{number-same, number-add, first-byte, moved}
 use Rattle.multiples.proofs.Entries.{multiples-high, multiples-low}
 
@@ -52,8 +52,8 @@ module _ (g x : List ℕ) (b : ℕ) (same : length g ≡ length x) (bytes : Byte
   h = add b (at 0)
 
   -- places k to k + 7 of the next register: those from k + 1 on, and a multiple of the generator
-  next : (k : ℕ) → number (λ i. getD (shiftIn g x b) i 0) k 8
-      ≡ add (number at k 8 % top * 256 + at (k + 8)) (number (λ i. getD (map (mul h) g) i 0) k 8)
+  next : (k : ℕ) → bytesAsNumber (λ i. getD (shiftIn g x b) i 0) k 8
+      ≡ add (bytesAsNumber at k 8 % top * 256 + at (k + 8)) (bytesAsNumber (λ i. getD (map (mul h) g) i 0) k 8)
   unfolding at h
   next k =
       number-same (λ i. getD (shiftIn g x b) i 0) (λ i. add (at (i + 1)) (mul h (getD g i 0))) k k 8 (λ i l. shift-place g x b (k + i) same)
@@ -66,14 +66,14 @@ module _ (g x : List ℕ) (b : ℕ) (same : length g ≡ length x) (bytes : Byte
   unfolding high low at h
   next-high =
       next 0
-      ∙ ap₂ (λ (u v : ℕ). add (number at 0 8 % top * 256 + u) (number (λ i. getD (map (mul (add b v)) g) i 0) 0 8)) (sym (first-byte at small 8)) (sym (first-byte at small 0))
+      ∙ ap₂ (λ (u v : ℕ). add (bytesAsNumber at 0 8 % top * 256 + u) (bytesAsNumber (λ i. getD (map (mul (add b v)) g) i 0) 0 8)) (sym (first-byte at small 8)) (sym (first-byte at small 0))
 
   pub next-low : length x ≤ 16 → low (shiftIn g x b) ≡ add (low x % top * 256) (low (map (mul (add b (high x / top))) g))
   unfolding high low at h
   next-low l =
       next 8
-      ∙ ap₂ (λ (u v : ℕ). add u (number (λ i. getD (map (mul (add b v)) g) i 0) 8 8))
-      (ap (λ (u : ℕ). number at 8 8 % top * 256 + u) (List·getD-eq-default x 0 l) ∙ omega arith) (sym (first-byte at small 0))
+      ∙ ap₂ (λ (u v : ℕ). add u (bytesAsNumber (λ i. getD (map (mul (add b v)) g) i 0) 8 8))
+      (ap (λ (u : ℕ). bytesAsNumber at 8 8 % top * 256 + u) (List·getD-eq-default x 0 l) ∙ omega arith) (sym (first-byte at small 0))
 
 -- ---- the generator
 

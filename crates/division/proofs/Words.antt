@@ -17,8 +17,8 @@ use Rattle.codes.specs.Parity.{addWords, parity}
 use Rattle.codes.proofs.Words.{addWords-length, addWords-bytes, syndrome-add}
 use Rattle.codes.proofs.Division.{Code, valueFrom-append, zeros-valueAt, parity-code}
 use Rattle.codes.proofs.Shift.{add-at}
-use Rattle.multiples.specs.Multiples.{number, high, low}
-use Rattle.division.specs.Packed.{remainderOf}
+use Rattle.multiples.specs.Inner.{bytesAsNumber, high, low}
+use Rattle.division.specs.Inner.{remainderOf}
 use Rattle.multiples.proofs.Numbers.{number-same, number-add}
 use Rattle.division.proofs.Division.{parity-size, parity-small}
 
@@ -33,7 +33,7 @@ add-place a q i e = dite (ℕ-discrete (1 - (length a - i)) 0)
     ∙ sym (ap₂ add (List·getD-eq-default a 0 l) (List·getD-eq-default q 0 (omega arith)) ∙ add-zero 0))
 
 module _ (a q : List ℕ) (e : length a ≡ length q) (ha : Bytes a) (hq : Bytes q) where
-  sum-number : (k : ℕ) → number (λ i. getD (addWords a q) i 0) k 8 ≡ add (number (λ i. getD a i 0) k 8) (number (λ i. getD q i 0) k 8)
+  sum-number : (k : ℕ) → bytesAsNumber (λ i. getD (addWords a q) i 0) k 8 ≡ add (bytesAsNumber (λ i. getD a i 0) k 8) (bytesAsNumber (λ i. getD q i 0) k 8)
   sum-number k =
       number-same (λ i. getD (addWords a q) i 0) (λ i. add (getD a i 0) (getD q i 0)) k k 8 (λ i l. add-place a q (k + i) e)
       ∙ number-add (λ i. getD a i 0) (λ i. getD-byte a i ha) (λ i. getD q i 0) (λ i. getD-byte q i hq) k 8

@@ -1,6 +1,5 @@
-pub mod Order
+pub mod Cells
 pub mod Staged
 pub mod Refusals
 pub mod Laws
 pub mod Trials
-pub mod Outer

@@ -10,34 +10,35 @@ use borrow.Author.Tests.{eq-eqb, ne-eqb, eqb-true, le-leb, lt-leb, leb-true}
 use lib.Bits.{bitAnd}
 use lib.Dec.{eqb, leb}
 use lib.ListN.{length}
+use Rattle.layout.specs.Lengths.{mainSize, blockSize, lastFirst}
 use Rattle.dataframe.specs.Frame.{isPermitted}
 use Rattle.eccblock.specs.Block.{block}
 use Rattle.eccblock.specs.Encode.{encodeRefusal, encodedBuffer, Accepted}
 
 module _ (n m first info : ℕ) where
-  pub main-length : n ≢ 32768 → 1 ≡ encodeRefusal n m first info
+  pub main-length : n ≢ mainSize → 1 ≡ encodeRefusal n m first info
   unfolding encodeRefusal
-  main-length h = rw (ne-eqb n 32768 h)
+  main-length h = rw (ne-eqb n mainSize h)
 
-  module _ (e : n ≡ 32768) where
-    pub buffer-length : m ≢ 37856 → 1 ≡ encodeRefusal n m first info
+  module _ (e : n ≡ mainSize) where
+    pub buffer-length : m ≢ blockSize → 1 ≡ encodeRefusal n m first info
     unfolding encodeRefusal
-    buffer-length h = rw (eq-eqb n 32768 e, ne-eqb m 37856 h)
+    buffer-length h = rw (eq-eqb n mainSize e, ne-eqb m blockSize h)
 
-    module _ (f : m ≡ 37856) where
+    module _ (f : m ≡ blockSize) where
       pub not-sixteen : first % 16 ≢ 0 → 2 ≡ encodeRefusal n m first info
       unfolding encodeRefusal
-      not-sixteen h = rw (eq-eqb n 32768 e, eq-eqb m 37856 f, ne-eqb (first % 16) 0 h)
+      not-sixteen h = rw (eq-eqb n mainSize e, eq-eqb m blockSize f, ne-eqb (first % 16) 0 h)
 
       module _ (g : first % 16 ≡ 0) where
-        pub number-over : 16777200 < first → 2 ≡ encodeRefusal n m first info
+        pub number-over : lastFirst < first → 2 ≡ encodeRefusal n m first info
         unfolding encodeRefusal
-        number-over h = rw (eq-eqb n 32768 e, eq-eqb m 37856 f, eq-eqb (first % 16) 0 g, lt-leb first 16777200 h)
+        number-over h = rw (eq-eqb n mainSize e, eq-eqb m blockSize f, eq-eqb (first % 16) 0 g, lt-leb first lastFirst h)
 
-        module _ (l : first ≤ 16777200) where
+        module _ (l : first ≤ lastFirst) where
           pub by-information : cond (isPermitted info) 0 3 ≡ encodeRefusal n m first info
           unfolding encodeRefusal
-          by-information = rw (eq-eqb n 32768 e, eq-eqb m 37856 f, eq-eqb (first % 16) 0 g, le-leb first 16777200 l)
+          by-information = rw (eq-eqb n mainSize e, eq-eqb m blockSize f, eq-eqb (first % 16) 0 g, le-leb first lastFirst l)
 
 module _ (info : ℕ) where
   pub prohibited : bitAnd info 0xD2 ≢ 0 → _≡_ {A = ℕ} 3 (cond (isPermitted info) 0 3)
@@ -68,18 +69,18 @@ not-refused true n m e = (refl, e)
 not-refused false n m e = absurd (omega arith)
 
 pub record Facts (main : List ℕ) (first info : ℕ) : Type 0 where
-  pub whole : length main ≡ 32768
+  pub whole : length main ≡ mainSize
   pub sixteen : first % 16 ≡ 0
-  pub small : first ≤ 16777200
+  pub small : first ≤ lastFirst
   pub permitted : isPermitted info ≡ true
 
 pub accepted-facts : (main : List ℕ) (first info : ℕ) → Accepted main first info → Facts main first info
 unfolding encodeRefusal
 accepted-facts main first info ok =
     let n = length main in
-    let a = not-refused (eqb n 32768 && eqb 37856 37856) 0 _ (ok .taken) in
-    let b = not-refused (eqb (first % 16) 0 && leb first 16777200) 1 _ (a .1) in
+    let a = not-refused (eqb n mainSize && eqb blockSize blockSize) 0 _ (ok .taken) in
+    let b = not-refused (eqb (first % 16) 0 && leb first lastFirst) 1 _ (a .1) in
     let c = not-refused (isPermitted info) 2 0 (b .1) in
-    let p = and-parts (eqb n 32768) (eqb 37856 37856) (a .0) in
-    let q = and-parts (eqb (first % 16) 0) (leb first 16777200) (b .0) in
-    record { whole = eqb-true n 32768 (p .0); sixteen = eqb-true (first % 16) 0 (q .0); small = leb-true first 16777200 (q .1); permitted = c .0 }
+    let p = and-parts (eqb n mainSize) (eqb blockSize blockSize) (a .0) in
+    let q = and-parts (eqb (first % 16) 0) (leb first lastFirst) (b .0) in
+    record { whole = eqb-true n mainSize (p .0); sixteen = eqb-true (first % 16) 0 (q .0); small = leb-true first lastFirst (q .1); permitted = c .0 }

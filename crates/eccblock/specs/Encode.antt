@@ -8,6 +8,7 @@ use lib.Dec.{eqb, leb}
 use lib.ListN.{length}
 use Rattle.lists.specs.Bytes.{Bytes}
 use Rattle.dataframe.specs.Frame.{isPermitted}
+use Rattle.layout.specs.Lengths.{mainSize, blockSize, lastFirst}
 use Rattle.eccblock.specs.Block.{block}
 use Rattle.eccblock.specs.declared.Encoded.{Encoded}
 use Rattle.eccblock.specs.declared.Encoded.the-variants.{Block, LengthRefused, NumberRefused, InformationRefused}
@@ -16,7 +17,7 @@ use Rattle.eccblock.specs.declared.Encoded.the-variants.{Block, LengthRe
 -- 1 another length than stated; 2 no multiple of 16, or over 16,777,200; 3 a bit outside (2D)
 unfoldable pub encodeRefusal : ℕ → ℕ → ℕ → ℕ → ℕ
 encodeRefusal n m first info =
-    cond (eqb n 32768 && eqb m 37856) (cond (eqb (first % 16) 0 && leb first 16777200) (cond (isPermitted info) 0 3) 2) 1
+    cond (eqb n mainSize && eqb m blockSize) (cond (eqb (first % 16) 0 && leb first lastFirst) (cond (isPermitted info) 0 3) 2) 1
 
 -- document 01's number for each answer of the block maker
 abbrev pub encodeNumber : Encoded → ℕ
@@ -33,4 +34,4 @@ encodedBuffer main first info old = cond (eqb (encodeRefusal (length main) (leng
 pub record Accepted (main : List ℕ) (first info : ℕ) : Type 0 where
   pub bytes : Bytes main
   pub byte : info < 256
-  pub taken : encodeRefusal (length main) 37856 first info ≡ 0
+  pub taken : encodeRefusal (length main) blockSize first info ≡ 0

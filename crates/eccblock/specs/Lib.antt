@@ -1,4 +1,3 @@
 pub mod Block
-pub mod Parts
 pub mod Encode
-pub mod Stages
+pub mod Inner

@@ -1,5 +1,4 @@
 pub mod Steps
-pub mod Sums
 pub mod LongDivision
 pub mod Remainders
 pub mod Polynomial

@@ -11,10 +11,9 @@ use lib.Bits.{xor-lt}
 use lib.Pow.{pow-pos, mod-pow-add}
 use Rattle.lists.specs.Bytes.{Bytes}
 use Rattle.field.specs.Field.{add}
-use Rattle.field.proofs.Field.{bit-cases, bit, add-assoc, add-comm, add-left-comm, add-self, add-zero, zero-add, add-cancel, add-swap, eq-of-add}
+use Rattle.field.proofs.Sums.{bit-cases, bit, add-assoc, add-comm, add-left-comm, add-self, add-zero, zero-add, add-cancel, add-swap, eq-of-add, add-div, add-shift, add-apart, add-parts, bit-times, sum-bit}
 use Rattle.edc.specs.Edc.{edcBit, edcBits, edcFrom, fourBytes}
 use Rattle.edc.specs.Polynomial.{bitFieldFrom, timesGenerator}
-use Rattle.edc.proofs.Sums.{add-div, add-shift, add-apart, add-parts, bit-times, sum-bit}
 
 -- ---- products
 

@@ -9,10 +9,9 @@ use lib.Bits.{bitXor, xor-lt}
 use lib.ListN.{length}
 use Rattle.lists.specs.Bytes.{Bytes}
 use Rattle.field.specs.Field.{add}
-use Rattle.field.proofs.Field.{add-assoc, add-self, add-zero, add-cancel, eq-of-add}
+use Rattle.field.proofs.Sums.{add-assoc, add-self, add-zero, add-cancel, eq-of-add, add-apart}
 use Rattle.edc.specs.Edc.{edcFrom, fourBytes, edcOf}
 use Rattle.edc.specs.Polynomial.{bitFieldFrom, bitField, timesGenerator, Multiple}
-use Rattle.edc.proofs.Sums.{add-apart}
 use Rattle.edc.proofs.LongDivision.{generator-add, multiple-small, from-lt, Leaves, leaves-self, leaves-bytes, after-field}
 
 -- 16.4, word for word: EDC is what the bit string times x^32 leaves modulo x^32 + x^31 + x^4 + 1

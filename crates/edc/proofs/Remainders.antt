@@ -7,10 +7,9 @@ use native.Mathlib.Omega.{arith}
 use lib.ListN.{getD, replicate}
 use Rattle.lists.proofs.Fill.{getD-tabulate}
 use Rattle.field.specs.Field.{add}
-use Rattle.field.proofs.Field.{bit, add-assoc, zero-add, add-zero, add-swap, add-cancel}
+use Rattle.field.proofs.Sums.{bit, add-assoc, zero-add, add-zero, add-swap, add-cancel, add-mod, add-shift, digit-add, bit-times, sum-bit}
 use Rattle.edc.specs.Edc.{edcBit, edcBits, edcFrom, fourBytes}
-use Rattle.edc.specs.Tables.{edcEntry, edcTable}
-use Rattle.edc.proofs.Sums.{add-mod, add-shift, digit-add, bit-times, sum-bit}
+use Rattle.edc.specs.Inner.{edcEntry, edcTable}
 use Rattle.edc.proofs.LongDivision.{absorb-four}
 
 -- ---- a sum of remainders and a sum of bits

@@ -1,3 +1,3 @@
 pub mod Edc
 pub mod Polynomial
-pub mod Tables
+pub mod Inner

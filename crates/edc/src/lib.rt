@@ -5,7 +5,9 @@ ghost use Prim.Native.Nat.{_%_, _<_};
 ghost use lib.ListN.{length};
 ghost use Rattle.field.specs.Field.{add};
 ghost use Rattle.edc.specs.Edc.{edcFrom, fourBytes, edcOf};
-ghost use Rattle.edc.specs.Tables.{edcTable};
+ghost use Rattle.edc.specs.Inner.{edcTable};
+use bytes::low_byte;
+use bytes::wide;
 
 pub fn edc_table() -> [u32; 1024]
     ensures { λ r. ⌜ r ≡ edcTable ⌝ }
@@ -13,65 +15,61 @@ pub fn edc_table() -> [u32; 1024]
     TABLE
 }
 
-pub fn wide(x: u8) -> u32
-    ensures { λ r. ⌜ (r ≡ x) × (r < 256) ⌝ }
-{
-    x as u32
-}
-
 // Where the table has what a byte x leaves in a place of the remainder that holds r.
 fn index(r: u32, x: u8) -> usize
     requires { ⌜ r < 256 ⌝ }
-    ensures { λ i. ⌜ (i ≡ add r x) × (i < 256) ⌝ }
+    ensures { λ i. ⌜ i ≡ add r x ⌝ }
+    ensures { λ i. ⌜ i < 256 ⌝ }
 {
     (r ^ wide(x)) as usize
 }
 
 // Four bytes more: each is added to its byte of the remainder, and what the four sums leave is the new one.
-fn edc_four(t: &[u32; 1024], r: u32, a: u8, b: u8, c: u8, d: u8) -> u32
-    requires { ⌜ now t ≡ edcTable ⌝ }
+fn edc_four(table: &[u32; 1024], r: u32, a: u8, b: u8, c: u8, d: u8) -> u32
+    requires { ⌜ now table ≡ edcTable ⌝ }
     ensures { λ s. ⌜ s ≡ edcFrom r (a ∷ b ∷ c ∷ d ∷ []) ⌝ }
 {
     let h = 768 + index(r / 16777216, a);
     let i = 512 + index(r / 65536 % 256, b);
     let j = 256 + index(r / 256 % 256, c);
     let k = index(r % 256, d);
-    t[h] ^ t[i] ^ t[j] ^ t[k]
+    table[h] ^ table[i] ^ table[j] ^ table[k]
 }
 
 // The remainder after some bytes, four at a time.
-fn edc_number(t: &[u32; 1024], xs: &[u8]) -> u32
-    requires { ⌜ (now t ≡ edcTable) × (length (now xs) % 4 ≡ 0) ⌝ }
+fn edc_number(table: &[u32; 1024], xs: &[u8]) -> u32
+    requires { ⌜ now table ≡ edcTable ⌝ }
+    requires { ⌜ length (now xs) % 4 ≡ 0 ⌝ }
     ensures { λ s. ⌜ s ≡ edcFrom 0 (now (xs .entry)) ⌝ }
 {
     let mut s: u32 = 0;
     let mut i: usize = 0;
     while i < xs.len() {
-        s = edc_four(t, s, xs[i], xs[i + 1], xs[i + 2], xs[i + 3]);
+        s = edc_four(table, s, xs[i], xs[i + 1], xs[i + 2], xs[i + 3]);
         i += 4;
     }
     s
-}
-
-pub fn byte(n: u32) -> u8
-    ensures { λ r. ⌜ r ≡ n % 256 ⌝ }
-{
-    (n % 256) as u8
 }
 
 // A remainder as bytes, the most significant first.
 fn four_bytes(r: u32) -> [u8; 4]
     ensures { λ s. ⌜ s ≡ fourBytes r ⌝ }
 {
-    [byte(r / 16777216), byte(r / 65536), byte(r / 256), byte(r)]
+    [
+        low_byte(r / 16777216),
+        low_byte(r / 65536),
+        low_byte(r / 256),
+        low_byte(r),
+    ]
 }
 
 // EDC of the bytes before it.
-pub fn edc(t: &[u32; 1024], xs: &[u8]) -> [u8; 4]
-    requires { ⌜ (now t ≡ edcTable) × (length (now xs) % 4 ≡ 0) ⌝ }
+pub fn edc(table: &[u32; 1024], xs: &[u8]) -> [u8; 4]
+    requires { ⌜ now table ≡ edcTable ⌝ }
+    requires { ⌜ length (now xs) % 4 ≡ 0 ⌝ }
     ensures { λ r. ⌜ r ≡ edcOf (now (xs .entry)) ⌝ }
 {
-    four_bytes(edc_number(t, xs))
+    four_bytes(edc_number(table, xs))
 }
 
 // Entry 256 k + h is what the byte h and k bytes ZERO after it leave from the remainder 0. The one entry in decimal is that of the byte 1: x^31 + x^4 + 1.

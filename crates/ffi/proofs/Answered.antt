@@ -23,7 +23,7 @@ use denote.Triple.Spec.{tripleOf}
 use denote.Triple.Statement.{Contract}
 use denote.Triple.Clauses.{ensured, lasts}
 use Rattle.writer.specs.declared.Answer.{Answer}
-use Rattle.writer.specs.Answers.{number}
+use Rattle.writer.specs.Answers.{answerNumber}
 use Rattle.writer.proofs.Answer as E
 use Rattle.console.proofs.answer_number as f
 
@@ -32,7 +32,7 @@ Number 𝓤 H A mem run = tripleOf 𝓤 H A f.signature (f.spec 𝓤 H A mem run
 
 -- the machine value of the answer's number
 abbrev pub Numbered : Answer → Val → Type 0
-Numbered r v = (v ≡ vint w32 (number r)) × (number r < 2 ^ 32)
+Numbered r v = (v ≡ vint w32 (answerNumber r)) × (answerNumber r < 2 ^ 32)
 
 module _ {M : Type 1} (𝓤 : URA M) (H : Heap 𝓤) (A : Atoms 𝓤) (W : Given 𝓤 H A) (at-mem : Memory → SProp 𝓤) (run : Routine → Fun 𝓤) (r : Answer) (w : Val) where
   abbrev pub to-number : Number 𝓤 H A at-mem run .Ghost
@@ -45,6 +45,6 @@ module _ {M : Type 1} (𝓤 : URA M) (H : Heap 𝓤) (A : Atoms 𝓤) (W : Given
   gives v =
       qed W (raw (Number 𝓤 H A at-mem run .post to-number v) ∷ []) ∵ updating ! $
       use1 W (later (some (λ (n : ℕ). (‵ ftrue ⊛ ‵ (u32 .own n (v ∷ []))) ⊛ raw (ensured 𝓤 H A f.ended (f.clauses 𝓤 H A at-mem run) tt (r, tt) tt n)))) (id⊢ 𝓤 _) $ await ! tt $ pick ! (λ n.
-      split ! $ move ! (1 ∷ []) $ use1 W (some (λ (zs : Unit {0} × Unit {0}). ‵ (lasts f.ended tt (r, tt) zs) ⊛ raw (fact 𝓤 (n ≡ number r)))) (id⊢ 𝓤 _) $ pick ! (λ zs.
-      split ! $ move ! (1 ∷ []) $ heard ! (n ≡ number r) (λ e. move ! (1 ∷ []) $ split ! $ move ! (1 ∷ []) $ peeks ! u32 (Is u32) (shows 𝓤 H A u32) n (v ∷ []) (λ is.
+      split ! $ move ! (1 ∷ []) $ use1 W (some (λ (zs : Unit {0} × Unit {0}). ‵ (lasts f.ended tt (r, tt) zs) ⊛ raw (fact 𝓤 (n ≡ answerNumber r)))) (id⊢ 𝓤 _) $ pick ! (λ zs.
+      split ! $ move ! (1 ∷ []) $ heard ! (n ≡ answerNumber r) (λ e. move ! (1 ∷ []) $ split ! $ move ! (1 ∷ []) $ peeks ! u32 (Is u32) (shows 𝓤 H A u32) n (v ∷ []) (λ is.
       at-once ! $ check ! (ap only (is .0) ∙ ap (vint w32) e, subst (λ (m : ℕ). m < 2 ^ 32) e (is .1)) $ keep ! (1 ∷ []) $ done !))))

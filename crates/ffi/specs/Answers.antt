@@ -1,5 +1,8 @@
--- The numbers that the functions of the C boundary answer with, and what a lent buffer holds afterwards.
--- 0: done. 1 to 9: document 01's refusals. 16 and 17: what became of a word that was no code word; above every refusal, so that none is taken for another.
+-- The numbers that the functions of the C boundary answer with, and what a lent buffer holds afterwards. One number space: 0 where all is done, below 256 the
+-- refusals, which are the documents' numbers, and from 256 on what became of a word that was no code word, so that none is taken for another.
+--   corrected, uncorrectable, outcomeNumber     the outcomes of a word
+--   sized, doneOr1, heldAfter                   a function that fills a buffer, or refuses
+--   wordRepairNumber, wordRepairBytes           the repair of a word
 -- Assumes nothing.
 use mathlib.Core.Bool.{Bool, cond}
 use mathlib.Core.List.{List}
@@ -22,16 +25,23 @@ doneOr1 ok = cond ok 0 1
 abbrev pub heldAfter : Bool → List ℕ → List ℕ → List ℕ
 heldAfter ok asked was = cond ok asked was
 
--- 0: a code word already. 16: it became the code word near it. 17: there is none near enough, and it stays
+-- a word that was no code word: it became the code word near it; or there is none near enough, and it stays
+abbrev pub corrected : ℕ
+corrected = 256
+
+abbrev pub uncorrectable : ℕ
+uncorrectable = 257
+
+-- 0 for a word that was a code word already
 abbrev pub outcomeNumber : Outcome → ℕ
 outcomeNumber Clean = 0
-outcomeNumber Corrected = 16
-outcomeNumber Uncorrectable = 17
+outcomeNumber Corrected = corrected
+outcomeNumber Uncorrectable = uncorrectable
 
 -- the repair of a word of n bytes with p roots, at most t bytes wrong: its number, or refusal 1 for another length
-abbrev pub repairNumber : ℕ → ℕ → ℕ → List ℕ → ℕ
-repairNumber n p t w = cond (sized n w) (outcomeNumber (outcomeOf p t w)) 1
+abbrev pub wordRepairNumber : ℕ → ℕ → ℕ → List ℕ → ℕ
+wordRepairNumber n p t w = cond (sized n w) (outcomeNumber (outcomeOf p t w)) 1
 
 -- the bytes of the word after it
-abbrev pub repairBytes : ℕ → ℕ → ℕ → List ℕ → List ℕ
-repairBytes n p t w = heldAfter (sized n w) (nearest p t w) w
+abbrev pub wordRepairBytes : ℕ → ℕ → ℕ → List ℕ → List ℕ
+wordRepairBytes n p t w = heldAfter (sized n w) (nearest p t w) w

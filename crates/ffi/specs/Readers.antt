@@ -9,8 +9,18 @@ use Rattle.reader.specs.declared.SectorRead.{SectorRead}
 use Rattle.reader.specs.declared.SectorRead.the-variants.{Sector, LengthRefused as SectorLength}
 use Rattle.repairer.specs.declared.Repaired.{Repaired}
 use Rattle.repairer.specs.declared.Repaired.the-variants.{Block as RepairedBlock, FrameRefused as RepairedRefused, LengthRefused as RepairedLength}
-use Rattle.roundtrip.specs.declared.BlockRead.{BlockRead}
-use Rattle.roundtrip.specs.declared.BlockRead.the-variants.{Block, FrameRefused, LengthRefused}
+use Rattle.blockreader.specs.declared.BlockRead.{BlockRead}
+use Rattle.blockreader.specs.declared.BlockRead.the-variants.{Block, FrameRefused, LengthRefused}
+
+-- how many numbers a report has
+abbrev pub sectorReportSize : ℕ
+sectorReportSize = 2
+
+abbrev pub repairReportSize : ℕ
+repairReportSize = 6
+
+abbrev pub blockReportSize : ℕ
+blockReportSize = 8
 
 -- the report `old` after an answer: the unknown words and the SYNC places without a code due there
 abbrev pub sectorReport : SectorRead → List ℕ → List ℕ

@@ -10,8 +10,8 @@ pub extern "C" fn chamanzil_encode_block(main: &[u8], first: u32, info: u8, out:
     ensures { λ r. ⌜ r ≡ encodeRefusal (length (now (main .entry))) (length (now (out .entry))) first info ⌝ }
     ensures { λ r. ⌜ now (out .exit) ≡ encodedBuffer (now (main .entry)) first info (now (out .entry)) ⌝ }
 {
-    let e = eccblock::encode_block(main, first, info, out);
-    eccblock::encode_number(e) as u32
+    let answer = eccblock::encode_block(main, first, info, out);
+    eccblock::encode_number(answer) as u32
 }
 
 // 32,768 main data bytes to a stream of 77,380: the block maker, then the writer from a new record; 0, or refusal 1, 2 or 3.
@@ -20,6 +20,6 @@ pub extern "C" fn chamanzil_format_block(main: &[u8], first: u32, info: u8, out:
     ensures { λ r. ⌜ r ≡ formatRefusal (length (now (main .entry))) (length (now (out .entry))) first info ⌝ }
     ensures { λ r. ⌜ now (out .exit) ≡ formattedBuffer (now (main .entry)) first info (now (out .entry)) ⌝ }
 {
-    let e = formatter::format_block(main, first, info, out);
-    eccblock::encode_number(e) as u32
+    let answer = formatter::format_block(main, first, info, out);
+    eccblock::encode_number(answer) as u32
 }

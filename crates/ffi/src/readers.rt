@@ -1,94 +1,89 @@
 // The sector reader, the block repairer and the whole-block reader. What they answer besides their number is laid as numbers in a report of the caller's.
 ghost use mathlib.Core.Path.{_≡_};
-ghost use Prim.Native.Nat.{_≤_};
 ghost use lib.ListN.{length};
 ghost use Rattle.reader.specs.Sector.{sectorAnswer, sectorAfter, sectorReadRefusal};
 ghost use Rattle.repairer.specs.Answer.{repairAnswer, blockAfter, mainAfter, repairRefusal};
-ghost use Rattle.roundtrip.specs.BlockReader.{blockReadAnswer, blockReadBlock, blockReadMain, blockReadRefusal};
+ghost use Rattle.blockreader.specs.BlockReader.{blockReadAnswer, blockReadBlock, blockReadMain, blockReadRefusal};
 ghost use Rattle.ffi.specs.Answers.{sized, heldAfter};
-ghost use Rattle.ffi.specs.Readers.{sectorReport, repairReport, blockReport, numberOr1};
+ghost use Rattle.ffi.specs.Readers.{sectorReportSize, repairReportSize, blockReportSize, sectorReport, repairReport, blockReport, numberOr1};
+use blockreader::BlockRead;
 use reader::SectorRead;
 use repairer::Repaired;
-use roundtrip::BlockRead;
 
-fn copy(from: &[u32], to: &mut [u32])
-    requires { ⌜ (length (now from) ≡ length (now to)) × (length (now to) ≤ 8) ⌝ }
-    ensures { λ r. ⌜ now (to .exit) ≡ now (from .entry) ⌝ }
-{
-    let mut i: usize = 0;
-    while i < to.len() {
-        to[i] = from[i];
-        i += 1;
-    }
-}
+// How many numbers a report has.
+const SECTOR_REPORT: usize = 2;
 
-fn lay_sector(r: SectorRead, report: &mut [u32])
-    requires { ⌜ length (now report) ≡ 2 ⌝ }
-    ensures { λ u. ⌜ now (report .exit) ≡ sectorReport r (now (report .entry)) ⌝ }
+const REPAIR_REPORT: usize = 6;
+
+const BLOCK_REPORT: usize = 8;
+
+fn lay_sector(answer: SectorRead, report: &mut [u32])
+    requires { ⌜ length (now report) ≡ sectorReportSize ⌝ }
+    ensures { λ r. ⌜ now (report .exit) ≡ sectorReport answer (now (report .entry)) ⌝ }
 {
-    match r {
+    match answer {
         SectorRead::Sector { unknown, sync } => {
-            let words = [unknown, sync];
-            copy(&words, report);
+            report[0] = unknown;
+            report[1] = sync;
         }
         SectorRead::LengthRefused => {}
     }
 }
 
-fn lay_repair(r: Repaired, report: &mut [u32])
-    requires { ⌜ length (now report) ≡ 6 ⌝ }
-    ensures { λ u. ⌜ now (report .exit) ≡ repairReport r (now (report .entry)) ⌝ }
+fn lay_repair(answer: Repaired, report: &mut [u32])
+    requires { ⌜ length (now report) ≡ repairReportSize ⌝ }
+    ensures { λ r. ⌜ now (report .exit) ≡ repairReport answer (now (report .entry)) ⌝ }
 {
-    match r {
+    match answer {
         Repaired::Block { first, tallies } => {
-            let rows = tallies.rows;
-            let columns = tallies.columns;
-            let words = [
-                first,
-                rows.corrected,
-                rows.uncorrectable,
-                columns.corrected,
-                columns.uncorrectable,
-                0,
-            ];
-            copy(&words, report);
+            report[0] = first;
+            report[1] = tallies.rows.corrected;
+            report[2] = tallies.rows.uncorrectable;
+            report[3] = tallies.columns.corrected;
+            report[4] = tallies.columns.uncorrectable;
+            report[5] = 0;
         }
         Repaired::FrameRefused { number: _, frame } => {
-            let words = [0, 0, 0, 0, 0, frame as u32];
-            copy(&words, report);
+            report[0] = 0;
+            report[1] = 0;
+            report[2] = 0;
+            report[3] = 0;
+            report[4] = 0;
+            report[5] = frame as u32;
         }
         Repaired::LengthRefused => {}
     }
 }
 
-fn lay_block(r: BlockRead, report: &mut [u32])
-    requires { ⌜ length (now report) ≡ 8 ⌝ }
-    ensures { λ u. ⌜ now (report .exit) ≡ blockReport r (now (report .entry)) ⌝ }
+fn lay_block(answer: BlockRead, report: &mut [u32])
+    requires { ⌜ length (now report) ≡ blockReportSize ⌝ }
+    ensures { λ r. ⌜ now (report .exit) ≡ blockReport answer (now (report .entry)) ⌝ }
 {
-    match r {
+    match answer {
         BlockRead::Block {
             first,
             tallies,
             unknown,
             sync,
         } => {
-            let rows = tallies.rows;
-            let columns = tallies.columns;
-            let words = [
-                first,
-                rows.corrected,
-                rows.uncorrectable,
-                columns.corrected,
-                columns.uncorrectable,
-                unknown,
-                sync,
-                0,
-            ];
-            copy(&words, report);
+            report[0] = first;
+            report[1] = tallies.rows.corrected;
+            report[2] = tallies.rows.uncorrectable;
+            report[3] = tallies.columns.corrected;
+            report[4] = tallies.columns.uncorrectable;
+            report[5] = unknown;
+            report[6] = sync;
+            report[7] = 0;
         }
         BlockRead::FrameRefused { number: _, frame } => {
-            let words = [0, 0, 0, 0, 0, 0, 0, frame as u32];
-            copy(&words, report);
+            report[0] = 0;
+            report[1] = 0;
+            report[2] = 0;
+            report[3] = 0;
+            report[4] = 0;
+            report[5] = 0;
+            report[6] = 0;
+            report[7] = frame as u32;
         }
         BlockRead::LengthRefused => {}
     }
@@ -97,16 +92,23 @@ fn lay_block(r: BlockRead, report: &mut [u32])
 // 4,838 bytes of stream to 2,366; 0, or refusal 1. The report has the tallies: unknown words, SYNC places that hold no code due there.
 #[no_mangle]
 pub extern "C" fn chamanzil_read_sector(stream: &[u8], out: &mut [u8], report: &mut [u32]) -> u32
-    ensures { λ r. ⌜ r ≡ numberOr1 (sized 2 (now (report .entry))) (sectorReadRefusal (now (stream .entry)) (length (now (out .entry)))) ⌝ }
-    ensures { λ r. ⌜ now (out .exit) ≡ heldAfter (sized 2 (now (report .entry))) (sectorAfter (now (stream .entry)) (now (out .entry))) (now (out .entry)) ⌝ }
-    ensures { λ r. ⌜ now (report .exit) ≡ heldAfter (sized 2 (now (report .entry))) (sectorReport (sectorAnswer (now (stream .entry)) (length (now (out .entry)))) (now (report .entry))) (now (report .entry)) ⌝ }
+    ensures { λ r. ⌜ r
+        ≡ numberOr1 (sized sectorReportSize (now (report .entry)))
+        (sectorReadRefusal (now (stream .entry)) (length (now (out .entry)))) ⌝ }
+    ensures { λ r. ⌜ now (out .exit)
+        ≡ heldAfter (sized sectorReportSize (now (report .entry)))
+        (sectorAfter (now (stream .entry)) (now (out .entry))) (now (out .entry)) ⌝ }
+    ensures { λ r. ⌜ now (report .exit)
+        ≡ heldAfter (sized sectorReportSize (now (report .entry)))
+        (sectorReport (sectorAnswer (now (stream .entry)) (length (now (out .entry)))) (now (report .entry)))
+        (now (report .entry)) ⌝ }
 {
-    if report.len() != 2 {
+    if report.len() != SECTOR_REPORT {
         return 1;
     }
-    let r = reader::read_sector(stream, out);
-    lay_sector(r, report);
-    reader::sector_number(r) as u32
+    let answer = reader::read_sector(stream, out);
+    lay_sector(answer, report);
+    reader::sector_read_number(answer) as u32
 }
 
 // A block of 37,856 bytes, repaired in place, to 32,768 main data bytes; 0, or refusal 1, 4, 5 or 6. The report has the first number, the rows corrected and
@@ -117,17 +119,26 @@ pub extern "C" fn chamanzil_repair_block(
     main: &mut [u8],
     report: &mut [u32],
 ) -> u32
-    ensures { λ r. ⌜ r ≡ numberOr1 (sized 6 (now (report .entry))) (repairRefusal (now (block .entry)) (length (now (main .entry)))) ⌝ }
-    ensures { λ r. ⌜ now (block .exit) ≡ heldAfter (sized 6 (now (report .entry))) (blockAfter (now (block .entry)) (length (now (main .entry)))) (now (block .entry)) ⌝ }
-    ensures { λ r. ⌜ now (main .exit) ≡ heldAfter (sized 6 (now (report .entry))) (mainAfter (now (block .entry)) (now (main .entry))) (now (main .entry)) ⌝ }
-    ensures { λ r. ⌜ now (report .exit) ≡ heldAfter (sized 6 (now (report .entry))) (repairReport (repairAnswer (now (block .entry)) (length (now (main .entry)))) (now (report .entry))) (now (report .entry)) ⌝ }
+    ensures { λ r. ⌜ r
+        ≡ numberOr1 (sized repairReportSize (now (report .entry)))
+        (repairRefusal (now (block .entry)) (length (now (main .entry)))) ⌝ }
+    ensures { λ r. ⌜ now (block .exit)
+        ≡ heldAfter (sized repairReportSize (now (report .entry)))
+        (blockAfter (now (block .entry)) (length (now (main .entry)))) (now (block .entry)) ⌝ }
+    ensures { λ r. ⌜ now (main .exit)
+        ≡ heldAfter (sized repairReportSize (now (report .entry)))
+        (mainAfter (now (block .entry)) (now (main .entry))) (now (main .entry)) ⌝ }
+    ensures { λ r. ⌜ now (report .exit)
+        ≡ heldAfter (sized repairReportSize (now (report .entry)))
+        (repairReport (repairAnswer (now (block .entry)) (length (now (main .entry)))) (now (report .entry)))
+        (now (report .entry)) ⌝ }
 {
-    if report.len() != 6 {
+    if report.len() != REPAIR_REPORT {
         return 1;
     }
-    let r = repairer::repair_block(block, main);
-    lay_repair(r, report);
-    repairer::repair_number(r) as u32
+    let answer = repairer::repair_block(block, main);
+    lay_repair(answer, report);
+    repairer::repair_number(answer) as u32
 }
 
 // 77,380 bytes of stream to a block of 37,856, as the repairer leaves it, and 32,768 main data bytes; 0, or refusal 1, 4, 5 or 6. The report is the repairer's
@@ -139,15 +150,29 @@ pub extern "C" fn chamanzil_read_block(
     main: &mut [u8],
     report: &mut [u32],
 ) -> u32
-    ensures { λ r. ⌜ r ≡ numberOr1 (sized 8 (now (report .entry))) (blockReadRefusal (now (stream .entry)) (length (now (block .entry))) (length (now (main .entry)))) ⌝ }
-    ensures { λ r. ⌜ now (block .exit) ≡ heldAfter (sized 8 (now (report .entry))) (blockReadBlock (now (stream .entry)) (now (block .entry)) (length (now (main .entry)))) (now (block .entry)) ⌝ }
-    ensures { λ r. ⌜ now (main .exit) ≡ heldAfter (sized 8 (now (report .entry))) (blockReadMain (now (stream .entry)) (length (now (block .entry))) (now (main .entry))) (now (main .entry)) ⌝ }
-    ensures { λ r. ⌜ now (report .exit) ≡ heldAfter (sized 8 (now (report .entry))) (blockReport (blockReadAnswer (now (stream .entry)) (length (now (block .entry))) (length (now (main .entry)))) (now (report .entry))) (now (report .entry)) ⌝ }
+    ensures { λ r. ⌜ r
+        ≡ numberOr1 (sized blockReportSize (now (report .entry)))
+        (blockReadRefusal (now (stream .entry)) (length (now (block .entry)))
+        (length (now (main .entry)))) ⌝ }
+    ensures { λ r. ⌜ now (block .exit)
+        ≡ heldAfter (sized blockReportSize (now (report .entry)))
+        (blockReadBlock (now (stream .entry)) (now (block .entry)) (length (now (main .entry))))
+        (now (block .entry)) ⌝ }
+    ensures { λ r. ⌜ now (main .exit)
+        ≡ heldAfter (sized blockReportSize (now (report .entry)))
+        (blockReadMain (now (stream .entry)) (length (now (block .entry))) (now (main .entry)))
+        (now (main .entry)) ⌝ }
+    ensures { λ r. ⌜ now (report .exit)
+        ≡ heldAfter (sized blockReportSize (now (report .entry)))
+        (blockReport
+        (blockReadAnswer (now (stream .entry)) (length (now (block .entry))) (length (now (main .entry))))
+        (now (report .entry)))
+        (now (report .entry)) ⌝ }
 {
-    if report.len() != 8 {
+    if report.len() != BLOCK_REPORT {
         return 1;
     }
-    let r = roundtrip::read_block(stream, block, main);
-    lay_block(r, report);
-    roundtrip::block_read_number(r) as u32
+    let answer = blockreader::read_block(stream, block, main);
+    lay_block(answer, report);
+    blockreader::block_read_number(answer) as u32
 }

@@ -16,8 +16,10 @@ pub extern "C" fn chamanzil_new_record(kept: &mut Record)
 // A sector of 2,366 bytes, laid as 4,836; 0, or refusal 1, 7 or 9.
 #[no_mangle]
 pub extern "C" fn chamanzil_write_sector(kept: &mut Record, bytes: &[u8], out: &mut [u8]) -> u32
-    ensures { λ r. ⌜ r ≡ sectorRefusal (now (kept .entry)) (length (now (bytes .entry))) (length (now (out .entry))) ⌝ }
-    ensures { λ r. ⌜ now (kept .exit) ≡ sectorNext (now (kept .entry)) (now (bytes .entry)) (length (now (out .entry))) ⌝ }
+    ensures { λ r. ⌜ r
+        ≡ sectorRefusal (now (kept .entry)) (length (now (bytes .entry))) (length (now (out .entry))) ⌝ }
+    ensures { λ r. ⌜ now (kept .exit)
+        ≡ sectorNext (now (kept .entry)) (now (bytes .entry)) (length (now (out .entry))) ⌝ }
     ensures { λ r. ⌜ now (out .exit) ≡ sectorOut (now (kept .entry)) (now (bytes .entry)) (now (out .entry)) ⌝ }
 {
     let answer = console::write(kept, bytes, out);

@@ -5,13 +5,14 @@ ghost use lib.Dec.{leb};
 ghost use lib.ListN.{length};
 ghost use Rattle.lists.specs.Count.{bit};
 ghost use Rattle.annexg.specs.Read.{readWord, readingNumber};
-ghost use Rattle.channel.specs.Bits.{runsHold};
+ghost use Rattle.channel.specs.Bits.{zeroRunsHold};
+ghost use Rattle.layout.specs.Lengths.{streamSize};
 use annexg::Reading;
 
-fn reading_number(r: Reading) -> u32
-    ensures { λ n. ⌜ n ≡ readingNumber r ⌝ }
+fn reading_number(reading: Reading) -> u32
+    ensures { λ n. ⌜ n ≡ readingNumber reading ⌝ }
 {
-    match r {
+    match reading {
         Reading::Byte(b) => b as u32,
         Reading::Unknown => 256,
     }
@@ -22,14 +23,14 @@ fn reading_number(r: Reading) -> u32
 pub extern "C" fn chamanzil_read_word(word: u16, following: u16) -> u32
     ensures { λ r. ⌜ r ≡ readingNumber (readWord word following) ⌝ }
 {
-    let r = annexg::read_word(word, following);
-    reading_number(r)
+    let reading = annexg::read_word(word, following);
+    reading_number(reading)
 }
 
 // 1 where a stream is no longer than a block's and has the zero runs that a block may have, else 0.
 #[no_mangle]
-pub extern "C" fn chamanzil_runs_hold(stream: &[u8]) -> u32
-    ensures { λ r. ⌜ r ≡ bit (leb (length (now (stream .entry))) 77380 && runsHold (now (stream .entry))) ⌝ }
+pub extern "C" fn chamanzil_zero_runs_hold(stream: &[u8]) -> u32
+    ensures { λ r. ⌜ r ≡ bit (leb (length (now (stream .entry))) streamSize && zeroRunsHold (now (stream .entry))) ⌝ }
 {
-    runs::runs_ok(stream) as u32
+    zeroruns::zero_runs_hold(stream) as u32
 }

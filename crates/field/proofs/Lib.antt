@@ -1,3 +1,4 @@
+pub mod Sums
 pub mod Field
 pub mod Powers
 pub mod Inverse

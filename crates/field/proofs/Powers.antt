@@ -1,20 +1,19 @@
 -- The laws of powers: by one more factor, and so of sums and products of exponents.
 -- Assumes nothing.
 use mathlib.Core.Path.{_≡_, refl, sym, ap, ap₂, _∙_, subst}
-use mathlib.Core.Bool.{Bool, true, false, not}
-use mathlib.Core.Logic.{_⊎_, inl, inr, _≢_}
-use Prim.Native.Nat.{ℕ, zero, suc, _+_, _-_, _*_, _/_, _%_, _<_, _≤_}
-use native.Mathlib.Nat.{mod-lt, zero-lt-suc, not-suc-le-zero, le-of-suc-le-suc, le-refl, div-add-mod', add-suc}
-use native.Mathlib.Nat.{add-zero as ℕ-add-zero, zero-mul as ℕ-zero-mul, mul-suc as ℕ-mul-suc, mul-zero as ℕ-mul-zero}
+use mathlib.Core.Bool.{not}
+use mathlib.Core.Logic.{_≢_}
+use Prim.Native.Nat.{ℕ, zero, suc, _+_, _-_, _/_, _%_, _<_, _≤_}
+use native.Mathlib.Nat.{not-suc-le-zero, le-of-suc-le-suc, le-refl, div-add-mod', add-suc}
+use native.Mathlib.Nat.{add-zero as ℕ-add-zero}
 use native.Mathlib.Decide.{le-ind}
 use native.Mathlib.Omega.{arith}
-use lib.Dec.{T, eqb, eqb→eq, T-not, eqb-refl}
+use lib.Dec.{T, eqb, T-not, eqb-refl}
 use lib.Arith.{bin-ind, half-le}
-use lib.Pow.{pow-pos}
 use Rattle.field.specs.Field.{add, double, mulBits, mul, square, oddFactor, powHalves, pow}
 use Rattle.lists.specs.Test.{below}
 use Rattle.lists.proofs.Test.{below-at}
-use Rattle.field.proofs.Field.{bit-cases, bit, mul-lt, mul-comm, mul-assoc, mul-left-comm, mul-swap, one-mul, mul-one, mul-zero, zero-mul, zero-of-mul, mul-cancel}
+use Rattle.field.proofs.Field.{bit-cases, bit, mul-lt, mul-left-comm, mul-swap, one-mul, mul-one, zero-of-mul, mul-cancel}
 
 -- ---- halves to go beyond the exponent's own change nothing
 
@@ -83,7 +82,7 @@ pow-mul a b ha hb (suc n) =
     pow-suc (mul a b) (mul-lt a b) n ∙ ap (mul (mul a b)) (pow-mul a b ha hb n)
     ∙ mul-swap a b (pow a n) (pow b n) ∙ sym (ap₂ mul (pow-suc a ha n) (pow-suc b hb n))
 
-pub one-pow : (n : ℕ) → pow 1 n ≡ 1
+one-pow : (n : ℕ) → pow 1 n ≡ 1
 one-pow zero = pow-zero 1
 one-pow (suc n) = pow-suc 1 (omega arith) n ∙ ap (mul 1) (one-pow n) ∙ one-mul 1 (omega arith)
 
@@ -94,7 +93,7 @@ pow-swap a ha (suc m) n =
     ap (λ (x : ℕ). pow x n) (pow-suc a ha m) ∙ pow-mul a (pow a m) ha (pow-lt a ha m) n ∙ ap (mul (pow a n)) (pow-swap a ha m n)
     ∙ sym (pow-suc (pow a n) (pow-lt a ha n) m)
 
-pub pow-nonzero : (a : ℕ) → a < 256 → a ≢ 0 → (n : ℕ) → pow a n ≢ 0
+pow-nonzero : (a : ℕ) → a < 256 → a ≢ 0 → (n : ℕ) → pow a n ≢ 0
 pow-nonzero a ha nz zero e = let e₁ : _≡_ {A = ℕ} 1 0 = sym (pow-zero a) ∙ e in omega arith
 pow-nonzero a ha nz (suc n) e = pow-nonzero a ha nz n (zero-of-mul a (pow a n) ha (pow-lt a ha n) nz (sym (pow-suc a ha n) ∙ e))
 
@@ -121,7 +120,7 @@ alpha = omega arith
 pub alpha-lt : (n : ℕ) → pow 2 n < 256
 alpha-lt n = pow-lt 2 alpha n
 
-pub alpha-nonzero : (n : ℕ) → pow 2 n ≢ 0
+alpha-nonzero : (n : ℕ) → pow 2 n ≢ 0
 alpha-nonzero n = pow-nonzero 2 alpha (omega arith) n
 
 -- the powers of α below the 255th differ
@@ -133,7 +132,7 @@ powers-differ i j h l e =
 
 -- ---- the power as a function that calls itself computes it
 
-pub pow-step : (a n : ℕ) → 0 < n → pow a n ≡ mul (square (pow a (n / 2))) (oddFactor (n % 2) a)
+pow-step : (a n : ℕ) → 0 < n → pow a n ≡ mul (square (pow a (n / 2))) (oddFactor (n % 2) a)
 unfolding pow powHalves
 pow-step a zero h = absurd (not-suc-le-zero h)
 pow-step a (suc n) h = ap (λ (x : ℕ). mul (square x) (oddFactor (suc n % 2) a)) (enough n a (suc n / 2) (half-le (le-refl (suc n))))

@@ -13,7 +13,7 @@ use lib.Seq.{ext-getD}
 use Rattle.lists.specs.Test.{below}
 use Rattle.lists.proofs.Test.{and-left, and-right, below-at}
 use Rattle.field.specs.Field.{add, double, mulBits, mul, pow, inverse}
-use Rattle.field.specs.Tables.{LogTable}
+use Rattle.field.specs.Inner.{LogTable}
 use Rattle.field.proofs.Powers.{pow-zero, pow-suc, pow-add, alpha, alpha-lt, alpha-order, powers-differ}
 use Rattle.field.proofs.Inverse.{inverse-is}
 

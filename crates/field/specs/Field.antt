@@ -1,10 +1,10 @@
 -- The field of 256 elements over x^8 + x^4 + x^3 + x^2 + 1 (ECMA-268, 16.2 and clause 18; document 01, 'The block'). An element is a byte: bit i is the coefficient of
 -- x^i, and α is the element x, the byte 2.
 -- Assumes nothing.
-use mathlib.Core.Bool.{Bool, true, false}
 use Prim.Native.Nat.{ℕ, zero, suc, _*_, _/_, _%_}
 use lib.Bits.{bitXor}
 use lib.Dec.{eqb}
+use Rattle.lists.specs.Test.{lastBelow}
 
 -- the sum, and the difference, of two elements
 unfoldable pub add : ℕ → ℕ → ℕ
@@ -44,11 +44,6 @@ powHalves (suc d) a (suc n) = mul (square (powHalves d a (suc n / 2))) (oddFacto
 -- a to the power n, by recursion on halves of the exponent (document 01); n has no more than n halves
 unfoldable pub pow : ℕ → ℕ → ℕ
 pow a n = powHalves n a n
-
--- the largest number below n that passes a test, or 0 where none does
-unfoldable pub lastBelow : (ℕ → Bool) → ℕ → ℕ
-lastBelow f zero = 0
-lastBelow f (suc n) = elim (f n) [ true ↦ n | false ↦ lastBelow f n ]
 
 -- the inverse of an element: the one whose product with it is 1, and 0 where there is none
 unfoldable pub inverse : ℕ → ℕ

@@ -1,23 +1,18 @@
 // GF(256): product, power and inverse (ECMA-268, 16.2 and clause 18; document 01, 'The block'). The table of logarithms is lent, so that no call makes it anew.
 ghost use mathlib.Core.Path.{_≡_};
 ghost use Rattle.field.specs.Field.{mul, pow, inverse};
-ghost use Rattle.field.specs.Tables.{LogTable};
+ghost use Rattle.field.specs.Inner.{LogTable};
 
+// The table of logarithms and powers, to be lent.
 pub fn log_table() -> [u8; 768]
     ensures { λ r. ⌜ LogTable r ⌝ }
 {
     TABLE
 }
 
-fn index(x: u8) -> usize
-    ensures { λ r. ⌜ r ≡ x ⌝ }
-{
-    x as usize
-}
-
 // The product of two elements.
-pub fn product(t: &[u8; 768], a: u8, b: u8) -> u8
-    requires { ⌜ LogTable (now t) ⌝ }
+pub fn product(logs: &[u8; 768], a: u8, b: u8) -> u8
+    requires { ⌜ LogTable (now logs) ⌝ }
     ensures { λ r. ⌜ r ≡ mul a b ⌝ }
 {
     if a == 0 {
@@ -26,45 +21,45 @@ pub fn product(t: &[u8; 768], a: u8, b: u8) -> u8
     if b == 0 {
         return 0;
     }
-    let i = index(t[index(a)]);
-    let j = index(t[index(b)]);
-    t[256 + (i + j)]
+    let i = bytes::index(logs[bytes::index(a)]);
+    let j = bytes::index(logs[bytes::index(b)]);
+    logs[256 + (i + j)]
 }
 
 // α^k.
-pub fn alpha_power(t: &[u8; 768], k: u8) -> u8
-    requires { ⌜ LogTable (now t) ⌝ }
+pub fn alpha_power(logs: &[u8; 768], k: u8) -> u8
+    requires { ⌜ LogTable (now logs) ⌝ }
     ensures { λ r. ⌜ r ≡ pow 2 k ⌝ }
 {
-    t[256 + index(k)]
+    logs[256 + bytes::index(k)]
 }
 
 // The inverse of an element, and 0 for 0.
-pub fn inverse_of(t: &[u8; 768], a: u8) -> u8
-    requires { ⌜ LogTable (now t) ⌝ }
+pub fn inverse_of(logs: &[u8; 768], a: u8) -> u8
+    requires { ⌜ LogTable (now logs) ⌝ }
     ensures { λ r. ⌜ r ≡ inverse a ⌝ }
 {
     if a == 0 {
         return 0;
     }
-    let i = index(t[index(a)]);
-    t[256 + (255 - i)]
+    let i = bytes::index(logs[bytes::index(a)]);
+    logs[256 + (255 - i)]
 }
 
 // a to the power n, by halves of n.
-pub fn power(t: &[u8; 768], a: u8, n: u64) -> u8
-    requires { ⌜ LogTable (now t) ⌝ }
+pub fn power(logs: &[u8; 768], a: u8, n: u64) -> u8
+    requires { ⌜ LogTable (now logs) ⌝ }
     ensures { λ r. ⌜ r ≡ pow a n ⌝ }
 {
     if n == 0 {
         return 1;
     }
-    let half = power(t, a, n / 2);
-    let squared = product(t, half, half);
+    let half = power(logs, a, n / 2);
+    let squared = product(logs, half, half);
     if n % 2 == 0 {
         squared
     } else {
-        product(t, squared, a)
+        product(logs, squared, a)
     }
 }
 

@@ -2,7 +2,9 @@
 // in six hexadecimal digits, INFO the Sector Information byte in two. A refusal writes no byte to standard output, and document 01's number to standard error.
 ghost use mathlib.Core.Path.{_≡_};
 ghost use lib.ListN.{length};
+ghost use Rattle.layout.specs.Lengths.{streamSize};
 use formatter::Parsed;
+use layout::STREAM_SIZE;
 use libc::STDERR_FILENO;
 use libc::STDIN_FILENO;
 use libc::STDOUT_FILENO;
@@ -14,10 +16,10 @@ fn main_room() -> [u8; 32769]
     [0; 32769]
 }
 
-fn stream_room() -> [u8; 77380]
-    ensures { λ r. ⌜ 77380 ≡ length r ⌝ }
+fn stream_room() -> [u8; STREAM_SIZE]
+    ensures { λ r. ⌜ streamSize ≡ length r ⌝ }
 {
-    [0; 77380]
+    [0; STREAM_SIZE]
 }
 
 fn say(text: &[u8]) {

@@ -10,7 +10,6 @@ use borrow.Author.Tests.{le-leb, lt-leb}
 use lib.Dec.{leb}
 use lib.ListN.{length, getD, drop}
 use lib.Seq.{drop-cons, drop-nil}
-use Rattle.formatter.specs.declared.Parsed.{Parsed}
 use Rattle.formatter.specs.declared.Parsed.the-variants.{Number, Malformed}
 use Rattle.formatter.specs.Hexadecimal.{digitValue, numberAfter}
 

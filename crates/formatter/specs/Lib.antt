@@ -1,3 +1,3 @@
 pub mod Formatter
 pub mod Hexadecimal
-pub mod Rooms
+pub mod Inner

@@ -6,10 +6,10 @@ ghost use Rattle.formatter.specs.Hexadecimal.{digitValue, numberAfter, h
 use crate::Parsed;
 
 // The value of a digit of either case, or 16.
-fn digit_value(c: u8) -> u32
-    ensures { λ r. ⌜ r ≡ digitValue c ⌝ }
+fn digit_value(character: u8) -> u32
+    ensures { λ r. ⌜ r ≡ digitValue character ⌝ }
 {
-    let n = c as u32;
+    let n = character as u32;
     if n < 48 {
         return 16;
     }
@@ -31,6 +31,7 @@ fn digit_value(c: u8) -> u32
     16
 }
 
+// The number of up to six digits.
 fn digits_number(digits: &[u8]) -> Parsed
     requires { ⌜ length (now digits) ≤ 6 ⌝ }
     ensures { λ r. ⌜ r ≡ numberAfter 0 (now (digits .entry)) ⌝ }

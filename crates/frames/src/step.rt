@@ -1,73 +1,74 @@
 // Both streams over a byte, and over the 91 bytes of a frame (clause 22).
 ghost use mathlib.Core.Path.{_≡_};
 ghost use mathlib.Core.Bool.{cond};
-ghost use mathlib.Core.List.{_++_};
-ghost use Prim.Native.Nat.{_+_, _≤_};
+ghost use Prim.Native.Nat.{_+_};
 ghost use lib.Dec.{leb};
-ghost use lib.ListN.{length, take, drop};
 ghost use Rattle.annexg.specs.Read.{tableOf};
 ghost use Rattle.annexg.specs.Sync.{syncTable};
 ghost use Rattle.channel.specs.Channel.{swaps};
+ghost use Rattle.layout.specs.Lengths.{frameBytes};
 ghost use Rattle.levels.specs.Level.{magnitude};
-ghost use Rattle.levels.specs.Levels.{levelTable};
+ghost use Rattle.levels.specs.Inner.{levelTable};
 ghost use Rattle.streams.specs.Streams.{Two, swapPossible, step, filled};
-ghost use Rattle.frames.specs.Frame.{Begins};
-ghost use Rattle.frames.specs.Inner.{Shows, planOf, Evened, Ready, Whole};
+ghost use Rattle.frames.specs.Inner.{Begins, Opened, Shows, Ready, planOf, planFor, Evened, Stepped, Whole};
 use super::Pair;
 use super::Plan;
 use laying::Side;
-use levels::Run;
+use layout::FRAME_BYTES;
+use levels::Running;
 
-// ---- which stream is lower
+// ---- what a byte does
 
 // Stream 1 is the lower, by the DSVs of both.
-pub(crate) fn lower(a: u64, b: u64) -> bool
-    ensures { λ r. ⌜ r ≡ leb (magnitude a) (magnitude b) ⌝ }
+pub(crate) fn lower(one: u64, two: u64) -> bool
+    ensures { λ r. ⌜ r ≡ leb (magnitude one) (magnitude two) ⌝ }
 {
-    levels::absolute(a) <= levels::absolute(b)
+    levels::absolute(one) <= levels::absolute(two)
 }
 
-fn pick_side(first: bool, a: Side, b: Side) -> Side
-    ensures { λ r. ⌜ r ≡ cond first a b ⌝ }
+fn pick_side(first: bool, one: Side, two: Side) -> Side
+    ensures { λ r. ⌜ r ≡ cond first one two ⌝ }
 {
     if first {
-        return a;
+        return one;
     }
-    b
+    two
 }
 
-// ---- the step over a byte
-
-fn swap_state(s: u8) -> bool
-    ensures { λ r. ⌜ r ≡ swaps s ⌝ }
+fn swap_state(state: u8) -> bool
+    ensures { λ r. ⌜ r ≡ swaps state ⌝ }
 {
-    if s == 1 {
+    if state == 1 {
         return true;
     }
-    s == 4
+    state == 4
 }
 
-fn can_swap(m: &[u32; 1024], u: &[u32; 352], s: u8, l: u16, b: u8) -> bool
-    requires { ⌜ (now m ≡ tableOf 0) × (now u ≡ tableOf 1) ⌝ }
-    ensures { λ r. ⌜ r ≡ swapPossible s l b ⌝ }
+// A swap is possible after the half word `tail`: the State 1 word and the State 4 word both join with a zero run of 2 to 10.
+fn can_swap(words: &[u32; 1024], substitutes: &[u32; 352], state: u8, tail: u16, byte: u8) -> bool
+    requires { ⌜ now words ≡ tableOf 0 ⌝ }
+    requires { ⌜ now substitutes ≡ tableOf 1 ⌝ }
+    ensures { λ r. ⌜ r ≡ swapPossible state tail byte ⌝ }
 {
-    if b < 88 {
+    if byte < 88 {
         return false;
     }
-    if !swap_state(s) {
+    if !swap_state(state) {
         return false;
     }
-    if !runs::joins(l, annexg::word_at(m, u, 0, b, 0)) {
+    if !zeroruns::joins(tail, annexg::word_at(words, substitutes, 0, byte, 0)) {
         return false;
     }
-    runs::joins(l, annexg::word_at(m, u, 0, b, 3))
+    zeroruns::joins(tail, annexg::word_at(words, substitutes, 0, byte, 3))
 }
 
-fn plan(s: u8, b: u8, swap: bool) -> Plan
-    ensures { λ r. ⌜ r ≡ planOf s b swap ⌝ }
+// What a byte does, by the State of the lower stream and whether a swap is made.
+fn plan_of(first: bool, state: u8, byte: u8, swap: bool) -> Plan
+    ensures { λ r. ⌜ r ≡ planOf first state byte swap ⌝ }
 {
-    if b < 88 {
+    if byte < 88 {
         return Plan {
+            first,
             copy: true,
             one: false,
             two: true,
@@ -75,101 +76,198 @@ fn plan(s: u8, b: u8, swap: bool) -> Plan
     }
     if swap {
         return Plan {
+            first,
             copy: true,
-            one: s == 4,
-            two: s == 1,
+            one: state == 4,
+            two: state == 1,
         };
     }
     Plan {
+        first,
         copy: false,
         one: false,
         two: false,
     }
 }
 
-// The bytes from a to e of one buffer over those of another, where all before a agree.
-fn copy(from: &[u8], to: &mut [u8], a: usize, e: usize)
-    requires { ⌜ (a ≤ e) × ((e ≤ length (now from)) × ((e ≤ length (now to)) × (take a (now from) ≡ take a (now to)))) ⌝ }
-    ensures { λ r. ⌜ now (to .exit) ≡ take e (now (from .entry)) ++ drop e (now (to .entry)) ⌝ }
+// What a byte does, by the ends of both streams. A swap is made just where it is possible in the lower.
+fn plan(words: &[u32; 1024], substitutes: &[u32; 352], pair: Pair, byte: u8) -> Plan
+    requires { ⌜ now words ≡ tableOf 0 ⌝ }
+    requires { ⌜ now substitutes ≡ tableOf 1 ⌝ }
+    ensures { λ r. ⌜ r ≡ planFor pair byte ⌝ }
 {
-    let mut j = a;
-    while j < e {
-        to[j] = from[j];
-        j += 1;
-    }
-}
-
-// The lower stream's buffer over the other's, up to e, where a byte copies; how many bytes agree then.
-fn even(s1: &mut [u8], s2: &mut [u8], copying: bool, first: bool, a: usize, e: usize) -> usize
-    requires { ⌜ (a ≤ e) × ((e ≤ length (now s1)) × ((e ≤ length (now s2)) × (take a (now s1) ≡ take a (now s2)))) ⌝ }
-    ensures { λ r. ⌜ Evened copying first (now (s1 .entry)) (now (s2 .entry)) e (now (s1 .exit)) (now (s2 .exit)) r ⌝ }
-{
-    if !copying {
-        return a;
-    }
-    if first {
-        copy(&*s1, &mut *s2, a, e);
-    } else {
-        copy(&*s2, &mut *s1, a, e);
-    }
-    e
-}
-
-// The bytes at and at + 1 of both buffers, and all before them where the lower stream is copied over the other. A swap is made just where it is possible in
-// the lower stream.
-fn step_byte(
-    m: &[u32; 1024],
-    u: &[u32; 352],
-    v: &[u8; 256],
-    p: Pair,
-    b: u8,
-    at: usize,
-    s1: &mut [u8],
-    s2: &mut [u8],
-) -> Pair
-    requires { ⌜ (now v ≡ levelTable) × (Ready p at (now s1) (now s2) × ((now m ≡ tableOf 0) × (now u ≡ tableOf 1))) ⌝ }
-    ensures { λ r. ⌜ ((t : Two) → Shows p (now (s1 .entry)) (now (s2 .entry)) at t → Shows r (now (s1 .exit)) (now (s2 .exit)) (at + 2) (step t b)) ⌝ }
-{
-    let one = p.one;
-    let two = p.two;
-    let first = lower(one.run.dsv, two.run.dsv);
+    let one = pair.one;
+    let two = pair.two;
+    let first = lower(one.running.dsv, two.running.dsv);
     let low = pick_side(first, one, two);
-    let swap = can_swap(m, u, low.run.state, low.tail, b);
-    let plan = plan(low.run.state, b, swap);
-    let shared = even(&mut *s1, &mut *s2, plan.copy, first, p.shared, at);
-    let from1 = pick_side(plan.copy, low, one);
-    let from2 = pick_side(plan.copy, low, two);
-    let one = laying::lay_word(m, u, v, from1, b, plan.one, at, &mut *s1);
-    let two = laying::lay_word(m, u, v, from2, b, plan.two, at, &mut *s2);
-    Pair { one, two, shared }
+    let swap = can_swap(words, substitutes, low.running.state, low.tail, byte);
+    plan_of(first, low.running.state, byte, swap)
 }
 
-// Both streams over the 91 bytes of a frame.
-pub(crate) fn fill(
-    m: &[u32; 1024],
-    u: &[u32; 352],
-    y: &[u16; 32],
-    v: &[u8; 256],
-    r: Run,
-    n: u8,
-    bytes: &[u8],
-    s1: &mut [u8],
-    s2: &mut [u8],
+// ---- the step over a byte
+
+// The lower stream over the other where a byte copies: its end, and its bytes up to `at` but for those that agree already.
+fn even(
+    pair: Pair,
+    copy: bool,
+    first: bool,
+    at: usize,
+    stream1: &mut [u8],
+    stream2: &mut [u8],
 ) -> Pair
-    requires { ⌜ (now v ≡ levelTable) × ((now m ≡ tableOf 0) × ((now u ≡ tableOf 1) × ((now y ≡ syncTable) × Begins r n (now bytes) (now s1) (now s2)))) ⌝ }
-    ensures one { λ p. ⌜ Whole (p .one .run) (now (s1 .exit)) (filled r n (now (bytes .entry)) .one) ⌝ }
-    ensures two { λ p. ⌜ Whole (p .two .run) (now (s2 .exit)) (filled r n (now (bytes .entry)) .two) ⌝ }
+    requires { ⌜ Ready pair at (now stream1) (now stream2) ⌝ }
+    ensures { λ r. ⌜ Evened copy first pair (now (stream1 .entry)) (now (stream2 .entry)) at r (now (stream1 .exit))
+        (now (stream2 .exit)) ⌝ }
 {
-    let one = laying::lay_sync(y, v, r, n, false, &mut *s1);
-    let two = laying::lay_sync(y, v, r, n, true, &mut *s2);
-    let mut p = Pair {
+    if !copy {
+        return pair;
+    }
+    let one = pair.one;
+    let two = pair.two;
+    let shared = pair.shared;
+    if first {
+        bytes::put(&mut *stream2, shared, &stream1[shared..at]);
+        return Pair {
+            one,
+            two: one,
+            shared: at,
+        };
+    }
+    bytes::put(&mut *stream1, shared, &stream2[shared..at]);
+    Pair {
+        one: two,
+        two,
+        shared: at,
+    }
+}
+
+// The bytes at and at + 1 of both buffers, and all before them where the lower stream is copied over the other.
+fn step_byte(
+    words: &[u32; 1024],
+    substitutes: &[u32; 352],
+    levels: &[u8; 256],
+    pair: Pair,
+    byte: u8,
+    at: usize,
+    stream1: &mut [u8],
+    stream2: &mut [u8],
+) -> Pair
+    requires { ⌜ now levels ≡ levelTable ⌝ }
+    requires { ⌜ now words ≡ tableOf 0 ⌝ }
+    requires { ⌜ now substitutes ≡ tableOf 1 ⌝ }
+    requires { ⌜ Ready pair at (now stream1) (now stream2) ⌝ }
+    ensures { λ r. ⌜ ((t : Two)
+        → Shows pair (now (stream1 .entry)) (now (stream2 .entry)) at t
+        → Shows r (now (stream1 .exit)) (now (stream2 .exit)) (at + 2) (step t byte)) ⌝ }
+{
+    let plan = plan(words, substitutes, pair, byte);
+    let pair = even(
+        pair,
+        plan.copy,
+        plan.first,
+        at,
+        &mut *stream1,
+        &mut *stream2,
+    );
+    let one = laying::lay_word(
+        words,
+        substitutes,
+        levels,
+        pair.one,
+        byte,
+        plan.one,
+        at,
+        &mut *stream1,
+    );
+    let two = laying::lay_word(
+        words,
+        substitutes,
+        levels,
+        pair.two,
+        byte,
+        plan.two,
+        at,
+        &mut *stream2,
+    );
+    Pair {
+        one,
+        two,
+        shared: pair.shared,
+    }
+}
+
+// ---- a frame
+
+// Both streams over the 91 bytes of a frame, after the four bytes of its SYNC Code.
+fn step_bytes(
+    words: &[u32; 1024],
+    substitutes: &[u32; 352],
+    levels: &[u8; 256],
+    pair: Pair,
+    bytes: &[u8],
+    stream1: &mut [u8],
+    stream2: &mut [u8],
+) -> Pair
+    requires { ⌜ now levels ≡ levelTable ⌝ }
+    requires { ⌜ now words ≡ tableOf 0 ⌝ }
+    requires { ⌜ now substitutes ≡ tableOf 1 ⌝ }
+    requires { ⌜ Opened pair (now bytes) (now stream1) (now stream2) ⌝ }
+    ensures { λ r. ⌜ Stepped pair (now (stream1 .entry)) (now (stream2 .entry)) (now (bytes .entry)) frameBytes r
+        (now (stream1 .exit)) (now (stream2 .exit)) ⌝ }
+{
+    let mut ends = pair;
+    for i in 0..FRAME_BYTES {
+        let byte = bytes[i];
+        ends = step_byte(
+            words,
+            substitutes,
+            levels,
+            ends,
+            byte,
+            4 + 2 * i,
+            &mut *stream1,
+            &mut *stream2,
+        );
+    }
+    ends
+}
+
+// Both streams over a frame: the Primary code in Stream 1, the Secondary in Stream 2, and the 91 bytes.
+pub(crate) fn fill(
+    words: &[u32; 1024],
+    substitutes: &[u32; 352],
+    syncs: &[u16; 32],
+    levels: &[u8; 256],
+    running: Running,
+    code: u8,
+    bytes: &[u8],
+    stream1: &mut [u8],
+    stream2: &mut [u8],
+) -> Pair
+    requires { ⌜ now levels ≡ levelTable ⌝ }
+    requires { ⌜ now words ≡ tableOf 0 ⌝ }
+    requires { ⌜ now substitutes ≡ tableOf 1 ⌝ }
+    requires { ⌜ now syncs ≡ syncTable ⌝ }
+    requires { ⌜ Begins running code (now bytes) (now stream1) (now stream2) ⌝ }
+    ensures one { λ r. ⌜ Whole (r .one .running) (now (stream1 .exit))
+        (filled running code (now (bytes .entry)) .one) ⌝ }
+    ensures two { λ r. ⌜ Whole (r .two .running) (now (stream2 .exit))
+        (filled running code (now (bytes .entry)) .two) ⌝ }
+{
+    let one = laying::lay_sync(syncs, levels, running, code, false, &mut *stream1);
+    let two = laying::lay_sync(syncs, levels, running, code, true, &mut *stream2);
+    let pair = Pair {
         one,
         two,
         shared: 0,
     };
-    for i in 0..91usize {
-        let b = bytes[i];
-        p = step_byte(m, u, v, p, b, 4 + 2 * i, &mut *s1, &mut *s2);
-    }
-    p
+    step_bytes(
+        words,
+        substitutes,
+        levels,
+        pair,
+        bytes,
+        &mut *stream1,
+        &mut *stream2,
+    )
 }

@@ -1,12 +1,27 @@
--- Vocabulary of inner contracts: which entry of annex G a choice takes, by table and column. No public contract cites it; channel's `entryFor` is the rule.
+-- Vocabulary of inner contracts, for an item laid at the end of a stream: sideAfter (the end of a stream after an item), Next (when a word may be laid).
+-- No theorem cites it.
 -- Assumes nothing.
-use mathlib.Core.Bool.{Bool, cond, _&&_}
-use Prim.Native.Nat.{ℕ, _-_}
-use lib.Dec.{leb, ltb}
+use mathlib.Core.Bool.{Bool}
+use mathlib.Core.List.{List}
+use Prim.Native.Nat.{ℕ, _+_, _<_}
+use lib.ListN.{length}
+use Rattle.annexg.specs.Read.{State}
+use Rattle.channel.specs.Channel.{Item, halvesFor, nextFor, lastFor}
+use Rattle.levels.specs.Level.{runningAfter}
+use Rattle.levels.specs.Inner.{Room}
+use Rattle.levels.specs.declared.Running.{Running}
+use Rattle.laying.specs.declared.Side.{Side}
 
--- table and column of the entry that a choice takes for byte b in State s
-abbrev pub tableFor : ℕ → Bool → ℕ
-tableFor b c = cond (c && ltb b 88) 1 0
+-- the end of a stream after an item, by a choice, from the running record r
+abbrev pub sideAfter : Running → Item → Bool → Side
+sideAfter r i c =
+    record {
+      running = runningAfter r (nextFor (r .state) i c) (halvesFor (r .state) i c);
+      tail = lastFor (r .state) i c;
+    }
 
-abbrev pub columnFor : ℕ → ℕ → Bool → ℕ
-columnFor s b c = cond (c && leb 88 b) (4 - s) (s - 1)
+-- a word may be laid at the byte `at` of the buffer x
+pub record Next (d : Side) (at : ℕ) (x : List ℕ) : Type 0 where
+  pub state : State (d .running .state)
+  pub room : Room (d .running) 16
+  pub long : at + 1 < length x

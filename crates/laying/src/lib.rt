@@ -1,84 +1,102 @@
 // A SYNC Code or a Code Word at the end of a stream: in the stream's buffer, and in its running record.
 ghost use mathlib.Core.Path.{_≡_};
-ghost use Prim.Native.Nat.{_+_, _<_, _≤_};
+ghost use Prim.Native.Nat.{_≤_};
 ghost use lib.ListN.{length};
 ghost use Rattle.annexg.specs.Read.{State, tableOf};
 ghost use Rattle.annexg.specs.Sync.{syncTable, syncEnd, codeFor};
-ghost use Rattle.channel.specs.Channel.{sync, byte, lastFor};
-ghost use Rattle.levels.specs.Level.{Room};
-ghost use Rattle.levels.specs.Levels.{levelTable};
-ghost use Rattle.laying.specs.Inner.{tableFor, columnFor};
-ghost use Rattle.laying.specs.Sides.{putAt, sideAfter, Next};
-use levels::Run;
+ghost use Rattle.bytes.specs.Halves.{putHalf};
+ghost use Rattle.channel.specs.Channel.{entryFor, lastFor};
+ghost use Rattle.channel.specs.Channel as channel;
+ghost use Rattle.levels.specs.Inner.{Room, levelTable};
+ghost use Rattle.laying.specs.Inner.{sideAfter, Next};
+use levels::Running;
 
 // The end of a stream: its running record and its last half word.
 pub struct Side {
-    pub run: Run,
+    pub running: Running,
     pub tail: u16,
 }
 
-// The two bytes of a half word.
-pub fn put(s: &mut [u8], at: usize, w: u16)
-    requires { ⌜ at + 1 < length (now s) ⌝ }
-    ensures { λ r. ⌜ now (s .exit) ≡ putAt (now (s .entry)) at w ⌝ }
-{
-    s[at] = (w / 256) as u8;
-    s[at + 1] = (w % 256) as u8;
-}
+// The second half word of every SYNC Code (table 4).
+const SYNC_END: u16 = 0x0011;
 
-fn table_for(b: u8, c: bool) -> usize
-    ensures { λ r. ⌜ r ≡ tableFor b c ⌝ }
+// The entry of annex G that a choice takes for a byte in a State. Without it the main word of that State; with it the substitution word for bytes 0 to 87,
+// and for the others the word of State 4 in State 1, and of State 1 in State 4.
+pub fn entry_for(
+    words: &[u32; 1024],
+    substitutes: &[u32; 352],
+    state: u8,
+    byte: u8,
+    choice: bool,
+) -> u32
+    requires { ⌜ now words ≡ tableOf 0 ⌝ }
+    requires { ⌜ now substitutes ≡ tableOf 1 ⌝ }
+    requires { ⌜ State state ⌝ }
+    ensures { λ r. ⌜ r ≡ entryFor state byte choice ⌝ }
 {
-    if !c {
-        return 0;
+    if !choice {
+        return annexg::entry(words, substitutes, 0, byte, state - 1);
     }
-    if b < 88 { 1 } else { 0 }
-}
-
-fn column_for(s: u8, b: u8, c: bool) -> u8
-    requires { ⌜ State s ⌝ }
-    ensures { λ r. ⌜ r ≡ columnFor s b c ⌝ }
-{
-    if !c {
-        return s - 1;
+    if byte < 88 {
+        return annexg::entry(words, substitutes, 1, byte, state - 1);
     }
-    if 88 <= b { 4 - s } else { s - 1 }
+    annexg::entry(words, substitutes, 0, byte, 4 - state)
 }
 
 // The Code Word that a choice takes for a byte, at the end of a stream.
 pub fn lay_word(
-    m: &[u32; 1024],
-    u: &[u32; 352],
-    v: &[u8; 256],
-    d: Side,
-    b: u8,
-    c: bool,
+    words: &[u32; 1024],
+    substitutes: &[u32; 352],
+    levels: &[u8; 256],
+    side: Side,
+    byte: u8,
+    choice: bool,
     at: usize,
-    s: &mut [u8],
+    buffer: &mut [u8],
 ) -> Side
-    requires { ⌜ (now v ≡ levelTable) × ((now m ≡ tableOf 0) × ((now u ≡ tableOf 1) × Next d at (now s))) ⌝ }
-    ensures { λ q. ⌜ q ≡ sideAfter (d .run) (byte b) c ⌝ }
-    ensures { λ q. ⌜ now (s .exit) ≡ putAt (now (s .entry)) at (lastFor (d .run .state) (byte b) c) ⌝ }
+    requires { ⌜ now levels ≡ levelTable ⌝ }
+    requires { ⌜ now words ≡ tableOf 0 ⌝ }
+    requires { ⌜ now substitutes ≡ tableOf 1 ⌝ }
+    requires { ⌜ Next side at (now buffer) ⌝ }
+    ensures { λ r. ⌜ r ≡ sideAfter (side .running) (channel.byte byte) choice ⌝ }
+    ensures { λ r. ⌜ now (buffer .exit)
+        ≡ putHalf (now (buffer .entry)) at (lastFor (side .running .state) (channel.byte byte) choice) ⌝ }
 {
-    let run = d.run;
-    let t = table_for(b, c);
-    let k = column_for(run.state, b, c);
-    let w = annexg::word_at(m, u, t, b, k);
-    let next = annexg::next_at(m, u, t, b, k);
-    put(&mut *s, at, w);
-    let run = run.word(v, w, next);
-    Side { run, tail: w }
+    let running = side.running;
+    let entry = entry_for(words, substitutes, running.state, byte, choice);
+    let word = (entry / 16) as u16;
+    let next = (entry % 16) as u8;
+    bytes::put_half(&mut *buffer, at, word);
+    let running = running.word(levels, word, next);
+    Side {
+        running,
+        tail: word,
+    }
 }
 
 // A SYNC Code at the front of a buffer.
-pub fn lay_sync(y: &[u16; 32], v: &[u8; 256], r: Run, n: u8, c: bool, s: &mut [u8]) -> Side
-    requires { ⌜ (now v ≡ levelTable) × ((now y ≡ syncTable) × (Room r 32 × (4 ≤ length (now s)))) ⌝ }
-    ensures { λ q. ⌜ q ≡ sideAfter r (sync n) c ⌝ }
-    ensures { λ q. ⌜ now (s .exit) ≡ putAt (putAt (now (s .entry)) 0 (codeFor (r .state) n c)) 2 syncEnd ⌝ }
+pub fn lay_sync(
+    syncs: &[u16; 32],
+    levels: &[u8; 256],
+    running: Running,
+    code: u8,
+    choice: bool,
+    buffer: &mut [u8],
+) -> Side
+    requires { ⌜ now levels ≡ levelTable ⌝ }
+    requires { ⌜ now syncs ≡ syncTable ⌝ }
+    requires { ⌜ Room running 32 ⌝ }
+    requires { ⌜ 4 ≤ length (now buffer) ⌝ }
+    ensures { λ r. ⌜ r ≡ sideAfter running (channel.sync code) choice ⌝ }
+    ensures { λ r. ⌜ now (buffer .exit)
+        ≡ putHalf (putHalf (now (buffer .entry)) 0 (codeFor (running .state) code choice)) 2 syncEnd ⌝ }
 {
-    let h = annexg::sync_code(y, r.state, n, c);
-    put(&mut *s, 0, h);
-    put(&mut *s, 2, 0x0011);
-    let run = r.sync(v, h);
-    Side { run, tail: 0x0011 }
+    let first = annexg::sync_code(syncs, running.state, code, choice);
+    bytes::put_half(&mut *buffer, 0, first);
+    bytes::put_half(&mut *buffer, 2, SYNC_END);
+    let running = running.sync(levels, first);
+    Side {
+        running,
+        tail: SYNC_END,
+    }
 }

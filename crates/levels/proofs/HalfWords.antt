@@ -6,13 +6,13 @@ use Prim.Native.Nat.{ℕ, zero, suc, _+_, _*_, _-_, _/_, _%_, _<_, _≤_}
 use native.Mathlib.Omega.{arith}
 use lib.ListN.{length, getD}
 use Rattle.lists.proofs.Fill.{getD-tabulate}
-use Rattle.annexg.specs.Runs.{bitsOf}
+use Rattle.annexg.specs.ZeroRuns.{bitsOf}
 use Rattle.channel.specs.Bits.{bitsAll}
-use Rattle.channel.proofs.BlockRuns.{half-bits}
-use Rattle.levels.specs.Level.{flipped, levelAfter, dsvAfter, runAfter}
-use Rattle.levels.specs.Levels.{atOne, byteLevels, levelTable}
-use Rattle.levels.specs.declared.Run.{Run}
-use Rattle.levels.proofs.Steps.{same-run, level-small, level-append, flipped-small}
+use Rattle.channel.proofs.BlockZeroRuns.{half-bits}
+use Rattle.levels.specs.Level.{flipped, levelAfter, dsvAfter, runningAfter}
+use Rattle.levels.specs.Inner.{atOne, byteLevels, levelTable}
+use Rattle.levels.specs.declared.Running.{Running}
+use Rattle.levels.proofs.Steps.{same-running, level-small, level-append, flipped-small}
 
 -- a bit at level ONE moves the DSV by 1, any other by -1
 dsv-one : (l d : ℕ) (bs : List ℕ) → l < 2 → length bs ≤ d → dsvAfter l d bs + length bs ≡ d + 2 * atOne l bs
@@ -95,8 +95,8 @@ unfolding bitsAll
 one-half w = append-nil (bitsOf 16 w) ∙ half-bits w
 
 pub half-by-bytes :
-    (a : Run) (w x y : ℕ) → a .level < 2 → 16 ≤ a .dsv → x ≡ byteLevels (a .level) (w / 256) → y ≡ byteLevels (x % 2) (w % 256)
-    → record { state = a .state; level = y % 2; dsv = a .dsv + 2 * (x / 2 + y / 2) - 16 } ≡ runAfter a (a .state) (w ∷ [])
+    (a : Running) (w x y : ℕ) → a .level < 2 → 16 ≤ a .dsv → x ≡ byteLevels (a .level) (w / 256) → y ≡ byteLevels (x % 2) (w % 256)
+    → record { state = a .state; level = y % 2; dsv = a .dsv + 2 * (x / 2 + y / 2) - 16 } ≡ runningAfter a (a .state) (w ∷ [])
 half-by-bytes a w x y h r xe ye =
     let l = a .level in
     let bs = bitsOf 8 (w / 256) in
@@ -110,6 +110,6 @@ half-by-bytes a w x y h r xe ye =
     let d = dsv-one l (a .dsv) (bs ++ cs) h (omega arith) in
     let g : a .dsv + 2 * (x / 2 + y / 2) - 16 ≡ dsvAfter l (a .dsv) (bs ++ cs) = omega (arith, d, one-append l bs cs) in
     let e = sym (one-half w) in
-    same-run refl
+    same-running refl
     (ap (λ (z : ℕ). z % 2) f ∙ byte-level (levelAfter l bs) (w % 256) k ∙ sym (level-append l bs cs) ∙ ap (levelAfter l) e)
     (g ∙ ap (dsvAfter l (a .dsv)) e)

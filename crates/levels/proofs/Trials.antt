@@ -5,20 +5,20 @@ use mathlib.Core.Bool.{Bool, true, false}
 use mathlib.Core.List.{[], _∷_}
 use Prim.Native.Nat.{ℕ, _+_, _-_, _/_}
 use Rattle.annexg.specs.Read.{tableOf, wordOf, nextOf}
-use Rattle.annexg.specs.Runs.{trail}
+use Rattle.annexg.specs.ZeroRuns.{trail}
 use Rattle.annexg.specs.Sync.{syncTable, syncEnd}
 use Rattle.annexg.specs.Tables.{mainTable}
 use Rattle.channel.specs.Bits.{bitsAll}
-use Rattle.channel.specs.Channel.{Item, sync, byte, entryFor, halvesFor, nextFor, joinRun, permitted}
-use Rattle.levels.specs.Level.{zeroAt, levelAfter, dsvAfter, runAfter}
-use Rattle.levels.specs.declared.Run.{Run}
+use Rattle.channel.specs.Channel.{Item, sync, byte, entryFor, halvesFor, nextFor, joinZeros, permitted}
+use Rattle.levels.specs.Level.{zeroAt, levelAfter, dsvAfter, runningAfter}
+use Rattle.levels.specs.declared.Running.{Running}
 
 -- the running record in State s at level l, DSV 0, and the record after an item by a choice
-abbrev start : ℕ → ℕ → Run
+abbrev start : ℕ → ℕ → Running
 start s l = record { state = s; level = l; dsv = zeroAt }
 
-abbrev after : ℕ → ℕ → Item → Bool → Run
-after s l i c = runAfter (start s l) (nextFor s i c) (halvesFor s i c)
+abbrev after : ℕ → ℕ → Item → Bool → Running
+after s l i c = runningAfter (start s l) (nextFor s i c) (halvesFor s i c)
 
 -- two bytes, the main word of the first in State 1 and then the other choice for the second
 abbrev pair : ℕ → ℕ → Bool
@@ -40,13 +40,13 @@ pub record Trials6to12 : Type 0 where
   pub trial-9 : (wordOf 0 166 0 ≡ 0b0010010000100010) × ((entryFor 1 255 true / 16 ≡ 0b0100001000010010) × (pair 166 255 ≡ true))
   -- 10: after 165 (0010010010010001) not
   pub trial-10 : (wordOf 0 165 0 ≡ 0b0010010010010001) × (pair 165 255 ≡ false)
-  -- 11: after 230 in State 1 (six ZEROs last) the State 1 word of 246 may follow, run 10
-  pub trial-11 : (trail (wordOf 0 230 0) ≡ 6) × ((joinRun (wordOf 0 230 0) (entryFor 4 246 true / 16) ≡ 10) × (pair 230 246 ≡ true))
-  -- 12: that of 250 not, run 11
-  pub trial-12 : (joinRun (wordOf 0 230 0) (entryFor 4 250 true / 16) ≡ 11) × (pair 230 250 ≡ false)
+  -- 11: after 230 in State 1 (six ZEROs last) the State 1 word of 246 may follow, zero run 10
+  pub trial-11 : (trail (wordOf 0 230 0) ≡ 6) × ((joinZeros (wordOf 0 230 0) (entryFor 4 246 true / 16) ≡ 10) × (pair 230 246 ≡ true))
+  -- 12: that of 250 not, zero run 11
+  pub trial-12 : (joinZeros (wordOf 0 230 0) (entryFor 4 250 true / 16) ≡ 11) × (pair 230 250 ≡ false)
 
 pub trials : Trials6to12
-unfolding tableOf mainTable syncTable joinRun permitted bitsAll levelAfter dsvAfter
+unfolding tableOf mainTable syncTable joinZeros permitted bitsAll levelAfter dsvAfter
 trials = record {
   trial-6 = (refl, (refl, (refl, refl)));
   trial-7 = (refl, (refl, (refl, refl)));

@@ -1,9 +1,9 @@
 -- NRZI level and Digital Sum Value over code bits (clause 22 of ECMA-268; document 01, "The choice between two streams"), and the running record.
 -- Assumes nothing.
 use mathlib.Core.List.{List, [], _∷_}
-use Prim.Native.Nat.{ℕ, zero, suc, _+_, _*_, _-_, _<_, _≤_}
+use Prim.Native.Nat.{ℕ, zero, suc, _+_, _*_, _-_}
 use Rattle.channel.specs.Bits.{bitsAll}
-use Rattle.levels.specs.declared.Run.{Run}
+use Rattle.levels.specs.declared.Running.{Running}
 
 -- the DSV is held as an unsigned number, with 0 at 2^40
 abbrev pub zeroAt : ℕ
@@ -29,11 +29,10 @@ dsvAfter l d [] = d
 dsvAfter l d (b ∷ bs) = dsvAfter (flipped l b) (d + 2 * flipped l b - 1) bs
 
 -- the running record after half words, where State s is prescribed next
-abbrev pub runAfter : Run → ℕ → List ℕ → Run
-runAfter r s hs = record { state = s; level = levelAfter (r .level) (bitsAll hs); dsv = dsvAfter (r .level) (r .dsv) (bitsAll hs) }
-
--- a record's level is a level, and its DSV can move by n either way; the writer's DSV stays far inside (refusal 9)
-pub record Room (r : Run) (n : ℕ) : Type 0 where
-  pub level : r .level < 2
-  pub low : n ≤ r .dsv
-  pub high : r .dsv + n ≤ 2199023255552
+abbrev pub runningAfter : Running → ℕ → List ℕ → Running
+runningAfter r s hs =
+    record {
+      state = s;
+      level = levelAfter (r .level) (bitsAll hs);
+      dsv = dsvAfter (r .level) (r .dsv) (bitsAll hs);
+    }

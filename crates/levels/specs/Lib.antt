@@ -1,2 +1,2 @@
 pub mod Level
-pub mod Levels
+pub mod Inner

@@ -1,6 +1,6 @@
 -- A computed test, turned into its rule at each number or entry.
 -- Assumes nothing.
-use mathlib.Core.Path.{_≡_, refl, sym, ap₂, subst, _∙_}
+use mathlib.Core.Path.{_≡_, refl, sym, ap, ap₂, subst, _∙_}
 use mathlib.Core.Bool.{Bool, true, false, false≢true, cond, _&&_, _||_}
 use mathlib.Core.List.{List, [], _∷_}
 use mathlib.Core.Logic.{_⊎_, inl, inr}
@@ -9,7 +9,7 @@ use native.Mathlib.Nat.{le-of-suc-le-suc, not-suc-le-zero, eq-or-lt-of-le, add-z
 use native.Mathlib.Omega.{arith}
 use lib.Dec.{T}
 use lib.ListN.{length, getD}
-use Rattle.lists.specs.Test.{below, everyFrom, every}
+use Rattle.lists.specs.Test.{below, everyFrom, every, lastBelow}
 
 pub and-left : (a b : Bool) → T (a && b) → T a
 and-left true b t = tt
@@ -77,3 +77,16 @@ or-right false b t = t
 pub implied : (a b : Bool) → T a → T (cond a b true) → T b
 implied true b t u = u
 implied false b t u = absurd t
+
+-- ---- the largest number that passes a test
+
+-- where exactly one number passes the test, it is found
+pub last-unique : (f : ℕ → Bool) (n b : ℕ) → b < n → f b ≡ true → ((k : ℕ) → k < n → f k ≡ true → k ≡ b) → lastBelow f n ≡ b
+unfolding lastBelow
+last-unique f zero b l e u = absurd (not-suc-le-zero l)
+last-unique f (suc n) b l e u = go (f n) refl (eq-or-lt-of-le (le-of-suc-le-suc l)) (λ k. last-unique f n b k e (λ j m. u j (omega arith)))
+  where
+    go : (t : Bool) → f n ≡ t → (b ≡ n) ⊎ (b < n) → (b < n → lastBelow f n ≡ b) → elim t [ true ↦ n | false ↦ lastBelow f n ] ≡ b
+    go true q c r = u n (omega arith) q
+    go false q (inl p) r = absurd (false≢true (sym q ∙ ap f (sym p) ∙ e))
+    go false q (inr k) r = r k

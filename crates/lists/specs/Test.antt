@@ -17,3 +17,8 @@ everyFrom f i (x ∷ xs) = f i x && everyFrom f (suc i) xs
 -- f passes at each entry of a list and its index
 abbrev pub every : (ℕ → ℕ → Bool) → List ℕ → Bool
 every f xs = everyFrom f 0 xs
+
+-- the largest number below n that passes a test, or 0 where none does
+unfoldable pub lastBelow : (ℕ → Bool) → ℕ → ℕ
+lastBelow f zero = 0
+lastBelow f (suc n) = elim (f n) [ true ↦ n | false ↦ lastBelow f n ]

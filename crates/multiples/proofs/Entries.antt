@@ -8,7 +8,7 @@ use lib.ListN.{getD}
 use Rattle.lists.proofs.Fill.{getD-tabulate}
 use Rattle.field.specs.Field.{mul}
 use Rattle.codes.specs.Parity.{generatorTail}
-use Rattle.multiples.specs.Multiples.{high, low, half, multiples}
+use Rattle.multiples.specs.Inner.{high, low, half, multiples}
 
 pub multiples-high : (p h : ℕ) → h < 256 → getD (multiples p) (2 * h) 0 ≡ high (map (mul h) (generatorTail p))
 unfolding multiples half

@@ -1,6 +1,6 @@
 // The multiples of the generators.
 ghost use mathlib.Core.Path.{_≡_};
-ghost use Rattle.multiples.specs.Multiples.{multiples};
+ghost use Rattle.multiples.specs.Inner.{multiples};
 
 pub fn multiples10() -> [u64; 512]
     ensures { λ r. ⌜ r ≡ multiples 10 ⌝ }

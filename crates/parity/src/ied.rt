@@ -2,32 +2,36 @@
 ghost use mathlib.Core.Path.{_≡_};
 ghost use Prim.Native.Nat.{_<_};
 ghost use lib.ListN.{length};
-ghost use Rattle.field.specs.Tables.{LogTable};
+ghost use Rattle.field.specs.Inner.{LogTable};
 ghost use Rattle.codes.specs.Parity.{shiftIn, remainder, generatorTail, parity};
 
 // One byte more of a word: the register moves up by one place.
-fn shift_in(t: &[u8; 768], g: &[u8], reg: &mut [u8], b: u8)
-    requires { ⌜ LogTable (now t) × (length (now g) ≡ length (now reg)) × (0 < length (now reg)) ⌝ }
+fn shift_in(logs: &[u8; 768], g: &[u8], reg: &mut [u8], b: u8)
+    requires { ⌜ LogTable (now logs)
+        × (length (now g) ≡ length (now reg))
+        × (0 < length (now reg)) ⌝ }
     ensures { λ r. ⌜ now (reg .exit) ≡ shiftIn (now (g .entry)) (now (reg .entry)) b ⌝ }
 {
     let h = b ^ reg[0];
     let last = reg.len() - 1;
     let mut k: usize = 0;
     while k < last {
-        reg[k] = reg[k + 1] ^ field::product(t, h, g[k]);
+        reg[k] = reg[k + 1] ^ field::product(logs, h, g[k]);
         k += 1;
     }
-    reg[last] = field::product(t, h, g[last]);
+    reg[last] = field::product(logs, h, g[last]);
 }
 
 // A whole word, from what the register holds.
-fn divide_into(t: &[u8; 768], g: &[u8], d: &[u8], reg: &mut [u8])
-    requires { ⌜ LogTable (now t) × (length (now g) ≡ length (now reg)) × (0 < length (now reg)) ⌝ }
+fn divide_into(logs: &[u8; 768], g: &[u8], d: &[u8], reg: &mut [u8])
+    requires { ⌜ LogTable (now logs)
+        × (length (now g) ≡ length (now reg))
+        × (0 < length (now reg)) ⌝ }
     ensures { λ r. ⌜ now (reg .exit) ≡ remainder (now (g .entry)) (now (reg .entry)) (now (d .entry)) ⌝ }
 {
     let mut i: usize = 0;
     while i < d.len() {
-        shift_in(t, g, reg, d[i]);
+        shift_in(logs, g, reg, d[i]);
         i += 1;
     }
 }
@@ -42,13 +46,13 @@ fn generator2() -> [u8; 2]
 }
 
 // The two parity bytes of a word of any length, over a lent table.
-pub fn parity2_with(t: &[u8; 768], d: &[u8]) -> [u8; 2]
-    requires { ⌜ LogTable (now t) ⌝ }
+pub fn parity2_with(logs: &[u8; 768], d: &[u8]) -> [u8; 2]
+    requires { ⌜ LogTable (now logs) ⌝ }
     ensures { λ r. ⌜ r ≡ parity 2 (now (d .entry)) ⌝ }
 {
     let g = generator2();
     let mut reg = [0u8; 2];
-    divide_into(t, &g, d, &mut reg);
+    divide_into(logs, &g, d, &mut reg);
     reg
 }
 
@@ -56,6 +60,6 @@ pub fn parity2_with(t: &[u8; 768], d: &[u8]) -> [u8; 2]
 pub fn parity2(d: &[u8; 4]) -> [u8; 2]
     ensures { λ r. ⌜ r ≡ parity 2 (now (d .entry)) ⌝ }
 {
-    let t = field::log_table();
-    parity2_with(&t, d)
+    let logs = field::log_table();
+    parity2_with(&logs, d)
 }

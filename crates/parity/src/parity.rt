@@ -2,8 +2,10 @@
 ghost use mathlib.Core.Path.{_≡_};
 ghost use lib.ListN.{take};
 ghost use Rattle.codes.specs.Parity.{parity};
-ghost use Rattle.multiples.specs.Multiples.{multiples};
-ghost use Rattle.division.specs.Unpacked.{unpacked};
+ghost use Rattle.multiples.specs.Inner.{multiples};
+ghost use Rattle.division.specs.Inner.{unpacked};
+use layout::COLUMN_COUNT;
+use layout::DATA_ROWS;
 
 // The bytes of a register of ten places.
 pub fn unpack10(high: u64, low: u64) -> [u8; 10]
@@ -24,34 +26,34 @@ pub fn unpack10(high: u64, low: u64) -> [u8; 10]
 }
 
 // The parity bytes of a word of any length, over a lent table: 10 (inner parity) and 16 (outer parity).
-pub fn parity10_with(m: &[u64; 512], d: &[u8]) -> [u8; 10]
-    requires { ⌜ now m ≡ multiples 10 ⌝ }
+pub fn parity10_with(table: &[u64; 512], d: &[u8]) -> [u8; 10]
+    requires { ⌜ now table ≡ multiples 10 ⌝ }
     ensures { λ r. ⌜ r ≡ parity 10 (now (d .entry)) ⌝ }
 {
-    let x = division::divide(m, d, 10);
+    let x = division::divide(table, d, 10);
     unpack10(x.high, x.low)
 }
 
-pub fn parity16_with(m: &[u64; 512], d: &[u8]) -> [u8; 16]
-    requires { ⌜ now m ≡ multiples 16 ⌝ }
+pub fn parity16_with(table: &[u64; 512], d: &[u8]) -> [u8; 16]
+    requires { ⌜ now table ≡ multiples 16 ⌝ }
     ensures { λ r. ⌜ r ≡ parity 16 (now (d .entry)) ⌝ }
 {
-    let x = division::divide(m, d, 16);
+    let x = division::divide(table, d, 16);
     crate::places::unpack(x.high, x.low)
 }
 
 // The inner parity of a row (clause 18).
-pub fn parity10(d: &[u8; 172]) -> [u8; 10]
+pub fn parity10(d: &[u8; COLUMN_COUNT]) -> [u8; 10]
     ensures { λ r. ⌜ r ≡ parity 10 (now (d .entry)) ⌝ }
 {
-    let m = multiples::multiples10();
-    parity10_with(&m, d)
+    let table = multiples::multiples10();
+    parity10_with(&table, d)
 }
 
 // The outer parity of a column (clause 18).
-pub fn parity16(d: &[u8; 192]) -> [u8; 16]
+pub fn parity16(d: &[u8; DATA_ROWS]) -> [u8; 16]
     ensures { λ r. ⌜ r ≡ parity 16 (now (d .entry)) ⌝ }
 {
-    let m = multiples::multiples16();
-    parity16_with(&m, d)
+    let table = multiples::multiples16();
+    parity16_with(&table, d)
 }

@@ -1,7 +1,7 @@
 // The bytes of a packed register.
 ghost use mathlib.Core.Path.{_≡_};
 ghost use Prim.Native.Nat.{_/_, _%_, _^_, _<_};
-ghost use Rattle.division.specs.Unpacked.{unpacked};
+ghost use Rattle.division.specs.Inner.{unpacked};
 
 // One byte of a number, with k bits after it.
 pub(crate) fn byte(x: u64, k: u64) -> u8

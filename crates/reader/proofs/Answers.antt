@@ -1,4 +1,5 @@
--- The sector reader's answer, its number and its buffer, case by case.
+-- The sector reader's answer, its number and its buffer, case by case: the cases (stream-other, buffer-other, both-fit), the answer (refused, tallied,
+-- sector-read-number), the buffer (buffer-left, buffer-read).
 -- Assumes nothing.
 use mathlib.Core.Path.{_≡_, refl}
 use mathlib.Core.Bool.{Bool, true, false, cond}
@@ -7,22 +8,23 @@ use mathlib.Core.Logic.{_≢_}
 use Prim.Native.Nat.{ℕ}
 use borrow.Author.Tests.{eq-eqb, ne-eqb}
 use lib.ListN.{length}
+use Rattle.layout.specs.Lengths.{sectorRead, sectorSize}
 use Rattle.channel.specs.Block.{readSector}
-use Rattle.reader.specs.Sector.{sectorFits, sectorAnswer, sectorAfter, sectorReadRefusal, sectorNumber, unknownTally, syncTally}
+use Rattle.reader.specs.Sector.{sectorFits, sectorAnswer, sectorAfter, sectorReadRefusal, sectorReadNumber, unknownTally, syncTally}
 use Rattle.reader.specs.declared.SectorRead.the-variants.{Sector, LengthRefused}
 
 module _ (xs : List ℕ) (n : ℕ) where
-  pub stream-other : length xs ≢ 4838 → sectorFits xs n ≡ false
+  pub stream-other : length xs ≢ sectorRead → sectorFits xs n ≡ false
   unfolding sectorFits
-  stream-other h = rw (ne-eqb (length xs) 4838 h)
+  stream-other h = rw (ne-eqb (length xs) sectorRead h)
 
-  pub buffer-other : length xs ≡ 4838 → n ≢ 2366 → sectorFits xs n ≡ false
+  pub buffer-other : length xs ≡ sectorRead → n ≢ sectorSize → sectorFits xs n ≡ false
   unfolding sectorFits
-  buffer-other e h = rw (eq-eqb (length xs) 4838 e, ne-eqb n 2366 h)
+  buffer-other e h = rw (eq-eqb (length xs) sectorRead e, ne-eqb n sectorSize h)
 
-  pub both-fit : length xs ≡ 4838 → n ≡ 2366 → sectorFits xs n ≡ true
+  pub both-fit : length xs ≡ sectorRead → n ≡ sectorSize → sectorFits xs n ≡ true
   unfolding sectorFits
-  both-fit e f = rw (eq-eqb (length xs) 4838 e, eq-eqb n 2366 f)
+  both-fit e f = rw (eq-eqb (length xs) sectorRead e, eq-eqb n sectorSize f)
 
   pub refused : sectorFits xs n ≡ false → LengthRefused ≡ sectorAnswer xs n
   unfolding sectorAnswer
@@ -32,11 +34,11 @@ module _ (xs : List ℕ) (n : ℕ) where
   unfolding sectorAnswer
   tallied e = rw e
 
-  pub sector-number : sectorNumber (sectorAnswer xs n) ≡ sectorReadRefusal xs n
+  pub sector-read-number : sectorReadNumber (sectorAnswer xs n) ≡ sectorReadRefusal xs n
   unfolding sectorAnswer sectorReadRefusal
-  sector-number = go (sectorFits xs n)
+  sector-read-number = go (sectorFits xs n)
     where
-      go : (b : Bool) → sectorNumber (cond b (Sector (unknownTally xs) (syncTally xs)) LengthRefused) ≡ cond b 0 1
+      go : (b : Bool) → sectorReadNumber (cond b (Sector (unknownTally xs) (syncTally xs)) LengthRefused) ≡ cond b 0 1
       go true = refl
       go false = refl
 

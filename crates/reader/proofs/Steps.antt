@@ -1,4 +1,4 @@
--- One turn of each of the sector reader's loops: a word that was judged, and a SYNC place that was looked at.
+-- One turn of each of the sector reader's loops: a word that was judged (byte-is, unknown-is), and a SYNC place that was looked at (lost-unless-sync).
 -- Assumes nothing.
 use mathlib.Core.Path.{_≡_, refl, sym, ap, _∙_}
 use mathlib.Core.Bool.{Bool, not}
@@ -7,17 +7,21 @@ use Prim.Native.Nat.{ℕ, _+_, _*_, _/_, _%_, _<_}
 use native.Mathlib.Omega.{arith}
 use Rattle.lists.specs.Count.{bit}
 use Rattle.annexg.specs.Read.{readWord, readingNumber}
+use Rattle.annexg.specs.Sync.{isSync}
 use Rattle.annexg.proofs.Stands.{byte-small}
 use Rattle.annexg.specs.declared.Reading.{Reading}
 use Rattle.annexg.specs.declared.Reading.the-variants.{Byte, Unknown}
-use Rattle.channel.specs.Block.{codeOf, byteOf, halfOf, halfAt, readAt}
-use Rattle.reader.specs.Sector.{isUnknown, unknownAt, isSync, lostSync}
+use Rattle.layout.specs.Lengths.{frameHalves}
+use Rattle.layout.specs.Sectors.{codeOf, halfOf}
+use Rattle.channel.specs.Block.{readingByte, readAt}
+use Rattle.bytes.specs.Halves.{halfAt}
+use Rattle.reader.specs.Sector.{isUnknown, unknownAt, lostSync}
 
 -- a reading's byte and whether it is unknown, from its number; a byte is below 256
 Small : Reading → Type 0
 Small r = (b : ℕ) → r ≡ Byte b → b < 256
 
-number-byte : (r : Reading) → Small r → readingNumber r % 256 ≡ byteOf r
+number-byte : (r : Reading) → Small r → readingNumber r % 256 ≡ readingByte r
 unfolding Small
 number-byte (Byte b) small = omega (arith, small b refl)
 number-byte Unknown small = refl
@@ -45,11 +49,11 @@ module _ (xs : List ℕ) (i w f n : ℕ) (hw : w ≡ halfAt xs (halfOf i)) (hf :
   unknown-is = ap (λ (k : ℕ). k / 256) number-is ∙ number-unknown (readWord (halfAt xs (halfOf i)) (halfAt xs (halfOf i + 1))) small
 
 -- the half words a and b of frame f's SYNC place are, or are not, SYn
-pub place-is :
-    (xs : List ℕ) (f n a b : ℕ) (t : Bool) → n ≡ codeOf f → a ≡ halfAt xs (93 * f) → b ≡ halfAt xs (93 * f + 1) → t ≡ isSync n a b
+pub lost-unless-sync :
+    (xs : List ℕ) (f n a b : ℕ) (t : Bool) → n ≡ codeOf f → a ≡ halfAt xs (frameHalves * f) → b ≡ halfAt xs (frameHalves * f + 1) → t ≡ isSync n a b
     → lostSync xs f ≡ not t
 unfolding lostSync
-place-is xs f n a b t hn ha hb ht = ap not here
+lost-unless-sync xs f n a b t hn ha hb ht = ap not here
   where
-    here : isSync (codeOf f) (halfAt xs (93 * f)) (halfAt xs (93 * f + 1)) ≡ t
+    here : isSync (codeOf f) (halfAt xs (frameHalves * f)) (halfAt xs (frameHalves * f + 1)) ≡ t
     here = rw (← hn, ← ha, ← hb) (sym ht)

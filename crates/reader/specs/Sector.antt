@@ -1,16 +1,19 @@
 -- The sector reader: its bytes, its tallies and what a call leaves (document 01, 'Reading a word, and the repair').
 -- Assumes nothing.
-use mathlib.Core.Bool.{Bool, true, false, not, cond, _&&_, _||_}
+use mathlib.Core.Bool.{Bool, true, false, not, cond, _&&_}
 use mathlib.Core.List.{List}
 use Prim.Native.Nat.{ℕ, _+_, _*_}
 use lib.Dec.{eqb}
 use lib.ListN.{length}
 use Rattle.lists.specs.Count.{countFrom}
 use Rattle.annexg.specs.Read.{readWord}
-use Rattle.annexg.specs.Sync.{codeFor, syncEnd}
+use Rattle.annexg.specs.Sync.{isSync}
 use Rattle.annexg.specs.declared.Reading.{Reading}
 use Rattle.annexg.specs.declared.Reading.the-variants.{Byte, Unknown}
-use Rattle.channel.specs.Block.{codeOf, halfOf, halfAt, readSector}
+use Rattle.layout.specs.Sectors.{codeOf, halfOf}
+use Rattle.bytes.specs.Halves.{halfAt}
+use Rattle.channel.specs.Block.{readSector}
+use Rattle.layout.specs.Lengths.{sectorSize, sectorRead, frameHalves, sectorFrames}
 use Rattle.reader.specs.declared.SectorRead.{SectorRead}
 use Rattle.reader.specs.declared.SectorRead.the-variants.{Sector, LengthRefused}
 
@@ -23,25 +26,20 @@ isUnknown Unknown = true
 unfoldable pub unknownAt : List ℕ → ℕ → Bool
 unknownAt xs i = isUnknown (readWord (halfAt xs (halfOf i)) (halfAt xs (halfOf i + 1)))
 
--- the half words a and b are one of the four codes of SYn, n at most 7: Primary or Secondary, of either class
-unfoldable pub isSync : ℕ → ℕ → ℕ → Bool
-isSync n a b =
-    (eqb a (codeFor 1 n false) || (eqb a (codeFor 1 n true) || (eqb a (codeFor 3 n false) || eqb a (codeFor 3 n true)))) && eqb b syncEnd
-
 -- the SYNC place of frame f holds none of the four codes due there; a frame is 93 half words
 unfoldable pub lostSync : List ℕ → ℕ → Bool
-lostSync xs f = not (isSync (codeOf f) (halfAt xs (93 * f)) (halfAt xs (93 * f + 1)))
+lostSync xs f = not (isSync (codeOf f) (halfAt xs (frameHalves * f)) (halfAt xs (frameHalves * f + 1)))
 
 -- the two tallies of a sector: of its 2,366 words the unknown ones, and of its 26 SYNC places those that hold none of the codes due there
 unfoldable pub unknownTally : List ℕ → ℕ
-unknownTally xs = countFrom (unknownAt xs) 0 2366
+unknownTally xs = countFrom (unknownAt xs) 0 sectorSize
 
 unfoldable pub syncTally : List ℕ → ℕ
-syncTally xs = countFrom (lostSync xs) 0 26
+syncTally xs = countFrom (lostSync xs) 0 sectorFrames
 
 -- a sector and the two bytes after it are 4,838 bytes, and the lent buffer has 2,366
 unfoldable pub sectorFits : List ℕ → ℕ → Bool
-sectorFits xs n = eqb (length xs) 4838 && eqb n 2366
+sectorFits xs n = eqb (length xs) sectorRead && eqb n sectorSize
 
 -- the answer, and the buffer after the call: as it was where a length is wrong
 unfoldable pub sectorAnswer : List ℕ → ℕ → SectorRead
@@ -55,6 +53,6 @@ unfoldable pub sectorReadRefusal : List ℕ → ℕ → ℕ
 sectorReadRefusal xs n = cond (sectorFits xs n) 0 1
 
 -- document 01's number for each answer, 0 where nothing is refused
-abbrev pub sectorNumber : SectorRead → ℕ
-sectorNumber (Sector unknown sync) = 0
-sectorNumber LengthRefused = 1
+abbrev pub sectorReadNumber : SectorRead → ℕ
+sectorReadNumber (Sector unknown sync) = 0
+sectorReadNumber LengthRefused = 1

@@ -8,13 +8,14 @@ use mathlib.Core.Path.{_≡_}
 use mathlib.Core.List.{List, [], _++_}
 use Prim.Native.Nat.{ℕ, zero, suc, _<_}
 use lib.ListN.{length}
-use Rattle.channel.specs.Block.{sectorPart}
+use Rattle.layout.specs.Sectors.{sectorPart}
+use Rattle.layout.specs.Lengths.{sectorCount, sectorSize}
 use Rattle.reader.specs.Sector.{sectorAnswer, sectorAfter}
 use Rattle.reader.specs.declared.SectorRead.{SectorRead}
 
 -- sixteen buffers of 2,366 bytes, whatever they hold
 abbrev pub Lent : (ℕ → List ℕ) → Type 0
-Lent outs = (k : ℕ) → k < 16 → length (outs k) ≡ 2366
+Lent outs = (k : ℕ) → k < sectorCount → length (outs k) ≡ sectorSize
 
 -- what the call for sector k answers, and what its buffer holds at exit
 abbrev pub callAnswer : List ℕ → (ℕ → List ℕ) → ℕ → SectorRead
@@ -30,4 +31,4 @@ callBuffers xs outs (suc n) = callBuffers xs outs n ++ callBuffer xs outs n
 
 -- 'the sixteen answers of 2,366 bytes, in that order, are the block buffer that the repairer gets'
 abbrev pub blockBuffer : List ℕ → (ℕ → List ℕ) → List ℕ
-blockBuffer xs outs = callBuffers xs outs 16
+blockBuffer xs outs = callBuffers xs outs sectorCount

@@ -1,10 +1,13 @@
 // A block's stream on standard input; its main data on standard output and the bench sheet's line on standard error. A refusal writes no byte to standard output.
 ghost use mathlib.Core.Path.{_≡_};
 ghost use lib.ListN.{length};
+ghost use Rattle.layout.specs.Lengths.{mainSize, blockSize};
+use blockreader::BlockRead;
+use layout::BLOCK_SIZE;
+use layout::MAIN_SIZE;
 use libc::STDERR_FILENO;
 use libc::STDIN_FILENO;
 use libc::STDOUT_FILENO;
-use roundtrip::BlockRead;
 
 // One byte more than a stream, so that a longer input shows.
 fn stream_room() -> [u8; 77381]
@@ -13,16 +16,16 @@ fn stream_room() -> [u8; 77381]
     [0; 77381]
 }
 
-fn block_room() -> [u8; 37856]
-    ensures { λ r. ⌜ 37856 ≡ length r ⌝ }
+fn block_room() -> [u8; BLOCK_SIZE]
+    ensures { λ r. ⌜ blockSize ≡ length r ⌝ }
 {
-    [0; 37856]
+    [0; BLOCK_SIZE]
 }
 
-fn main_room() -> [u8; 32768]
-    ensures { λ r. ⌜ 32768 ≡ length r ⌝ }
+fn main_room() -> [u8; MAIN_SIZE]
+    ensures { λ r. ⌜ mainSize ≡ length r ⌝ }
 {
-    [0; 32768]
+    [0; MAIN_SIZE]
 }
 
 fn print_line(r: BlockRead) {
@@ -36,8 +39,8 @@ fn main() {
     let mut block = block_room();
     let mut main = main_room();
     let n = io::read_full(STDIN_FILENO, &mut stream);
-    let r = roundtrip::read_block(&stream[..n], &mut block, &mut main);
-    if roundtrip::block_read_number(r) == 0 {
+    let r = blockreader::read_block(&stream[..n], &mut block, &mut main);
+    if blockreader::block_read_number(r) == 0 {
         if !io::write_all(STDOUT_FILENO, &main) {
             io::write_all(
                 STDERR_FILENO,

@@ -15,9 +15,8 @@ use Rattle.lists.proofs.Test.{and-left, and-right, truth-of}
 use Rattle.field.specs.Field.{pow}
 use Rattle.codes.specs.Word.{valueAt, syndrome}
 use Rattle.codes.proofs.Division.{Code, zeros-valueAt}
-use Rattle.multiples.specs.Multiples.{high, low}
-use Rattle.division.specs.Packed.{remainderOf}
-use Rattle.division.specs.Unpacked.{unpacked}
+use Rattle.multiples.specs.Inner.{high, low}
+use Rattle.division.specs.Inner.{remainderOf, unpacked}
 use Rattle.division.proofs.Division.{zeros-place, packed-zeros}
 use Rattle.division.proofs.Unpacked.{unpacked-register}
 use Rattle.division.proofs.Words.{left-length, left-bytes, left-syndrome}

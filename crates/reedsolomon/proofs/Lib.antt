@@ -1,2 +1,3 @@
 pub mod Loops
 pub mod Left
+pub mod Repair

@@ -1,21 +1,21 @@
 -- The definitions as loops compute them.
 -- Assumes nothing.
-use mathlib.Core.Path.{_≡_, refl, sym, ap, ap₂, _∙_}
-use mathlib.Core.List.{List, [], _∷_}
-use Prim.Native.Nat.{ℕ, zero, suc, _+_, _-_, _<_, _≤_}
+use mathlib.Core.Path.{_≡_, sym, ap, ap₂, _∙_}
+use mathlib.Core.List.{List}
+use Prim.Native.Nat.{ℕ, suc, _+_, _-_, _<_, _≤_}
 use native.Mathlib.Nat.{le-refl}
 use native.Mathlib.Numerals.{add-one}
 use native.Mathlib.Omega.{arith}
 use mathlib.Core.Logic.{dite}
 use native.Mathlib.Decide.{ℕ-discrete}
 use borrow.Author.Tests.{eq-eqb, ne-eqb}
-use lib.ListN.{length, getD, set, drop, length-set, drop-of-length-le, List·getD-eq-default}
-use lib.Seq.{drop-cons, getD-set-same, getD-set-other}
+use lib.ListN.{length, getD, drop, drop-of-length-le, List·getD-eq-default}
+use lib.Seq.{drop-cons}
 use Rattle.lists.specs.Fill.{tabulate}
 use Rattle.lists.proofs.Fill.{length-tabulate, getD-tabulate}
 use Rattle.field.specs.Field.{add, mul, pow}
 use Rattle.field.proofs.Field.{add-assoc, add-zero, zero-add, mul-zero}
-use Rattle.codes.specs.Decoding.{at, dot, polyAt, Stored, without, withoutOthers, spread, errorValue, change, mendFrom}
+use Rattle.codes.specs.Inner.{at, dot, polyAt, without, withoutOthers, spread, errorValue, change, mendFrom}
 
 -- ---- a key equation, from the front on
 
@@ -44,29 +44,6 @@ unfolding polyAt
 poly-next c x i v p h e =
     let k : suc (i - 1) ≡ i = omega arith in
     ap (λ (y : ℕ). add (getD c (i - 1) 0) (mul x y)) (e ∙ ap (λ (n : ℕ). polyAt (drop n c) x) (sym k)) ∙ sym (ap (λ (l : List ℕ). polyAt l x) (drop-cons c (i - 1) 0 (omega arith)))
-
--- ---- a list stored into another, place by place
-
-pub record Storing (m : List ℕ) (a : ℕ) (v m' : List ℕ) (n : ℕ) : Type 0 where
-  pub same : length m' ≡ length m
-  pub inside : (j : ℕ) → j < n → getD m' (a + j) 0 ≡ getD v j 0
-  pub before : (j : ℕ) → j < a → getD m' j 0 ≡ getD m j 0
-  pub after : (j : ℕ) → a + n ≤ j → getD m' j 0 ≡ getD m j 0
-
-pub storing-none : (m : List ℕ) (a : ℕ) (v : List ℕ) → Storing m a v m 0
-storing-none m a v = record { same = refl; inside = λ j l. absurd (omega arith); before = λ j l. refl; after = λ j l. refl }
-
-pub storing-more : (m : List ℕ) (a : ℕ) (v m' : List ℕ) (n x : ℕ) → a + n < length m' → x ≡ getD v n 0 → Storing m a v m' n → Storing m a v (set m' (a + n) x) (n + 1)
-storing-more m a v m' n x h e s = record {
-  same = length-set m' (a + n) x ∙ s .same;
-  inside = λ j l. dite (ℕ-discrete j n) (λ q. rw q (getD-set-same m' (a + n) x 0 h ∙ e))
-      (λ q. getD-set-other m' (a + n) (a + j) x 0 (λ z. q (omega (arith, z))) ∙ s .inside j (omega (arith, q)));
-  before = λ j l. getD-set-other m' (a + n) j x 0 (λ z. omega (arith, z)) ∙ s .before j l;
-  after = λ j l. getD-set-other m' (a + n) j x 0 (λ z. omega (arith, z)) ∙ s .after j (omega arith);
-}
-
-pub storing-all : (m : List ℕ) (a : ℕ) (v m' : List ℕ) (n : ℕ) → n ≡ length v → Storing m a v m' n → Stored m a v m'
-storing-all m a v m' n e s = record { same = s .same; inside = λ j l. s .inside j (omega arith); before = s .before; after = λ j l. s .after j (omega arith) }
 
 -- ---- the value of an error: the other errors taken out of the syndromes, one after the other
 

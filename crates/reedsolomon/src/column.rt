@@ -1,18 +1,21 @@
-// The repair of a column of 208 bytes with 16 roots: the nearest code column within eight bytes (document 01, 'Reading a word, and the repair').
+// The repair of a column of 208 bytes with 16 roots: the nearest code column within eight bytes
+// (document 01, 'Reading a word, and the repair').
 ghost use mathlib.Core.Path.{_≡_};
-ghost use Prim.Native.Nat.{ℕ, _<_, _≤_};
-ghost use lib.ListN.{length, getD, take};
+ghost use Prim.Native.Nat.{_≤_};
+ghost use lib.ListN.{length, take};
 ghost use Rattle.lists.specs.Fill.{tabulate};
-ghost use Rattle.field.specs.Tables.{LogTable};
+ghost use Rattle.field.specs.Inner.{LogTable};
 ghost use Rattle.codes.specs.Word.{syndrome};
 ghost use Rattle.codes.specs.Nearest.{nearest, outcomeOf};
-ghost use Rattle.multiples.specs.Multiples.{multiples};
-ghost use Rattle.codes.specs.Decoding.{at, Locator, Places, mended};
+ghost use Rattle.multiples.specs.Inner.{multiples};
+ghost use Rattle.codes.specs.Inner.{at, Locator, Places, mended};
+ghost use Rattle.layout.specs.Lengths.{rowCount};
 use codes::Outcome;
+use layout::ROW_COUNT;
 
 // A column and what became of it. As rows do, it goes in by value and comes back.
 pub struct Column {
-    pub bytes: [u8; 208],
+    pub bytes: [u8; ROW_COUNT],
     pub outcome: Outcome,
 }
 
@@ -23,61 +26,79 @@ struct ColumnPlaces {
 }
 
 // The sixteen syndromes of a column: its sums at the roots (document 01). They decide whether it is a code column.
-fn column_syndromes(t: &[u8; 768], m: &[u64; 512], w: [u8; 208]) -> [u8; 16]
-    requires { ⌜ LogTable (now t) × (now m ≡ multiples 16) ⌝ }
-    ensures { λ r. ⌜ r ≡ tabulate (syndrome w) 16 ⌝ }
+fn column_syndromes(logs: &[u8; 768], table: &[u64; 512], bytes: [u8; ROW_COUNT]) -> [u8; 16]
+    requires { ⌜ LogTable (now logs) ⌝ }
+    requires { ⌜ now table ≡ multiples 16 ⌝ }
+    ensures { λ r. ⌜ r ≡ tabulate (syndrome bytes) 16 ⌝ }
 {
-    let x = division::remainder_of(m, &w, 16);
-    crate::syndromes::syndromes16(t, x)
+    let left = division::remainder_of(table, &bytes, 16);
+    crate::syndromes::syndromes16(logs, left)
 }
 
-fn column_locator(t: &[u8; 768], s: [u8; 16]) -> [u8; 9]
-    requires { ⌜ LogTable (now t) ⌝ }
-    ensures { λ r. ⌜ Locator (at s) 8 r ⌝ }
+fn column_locator(logs: &[u8; 768], syndromes: [u8; 16]) -> [u8; 9]
+    requires { ⌜ LogTable (now logs) ⌝ }
+    ensures { λ r. ⌜ Locator (at syndromes) 8 r ⌝ }
 {
     let mut pivots = [0u8; 72];
-    let mut v = [0u8; 9];
-    crate::locate::locate(t, &s, &mut pivots, &mut v);
-    v
+    let mut locator = [0u8; 9];
+    crate::locate::locate(logs, &syndromes, &mut pivots, &mut locator);
+    locator
 }
 
-fn column_search(t: &[u8; 768], s: [u8; 16]) -> ColumnPlaces
-    requires { ⌜ LogTable (now t) ⌝ }
-    ensures { λ r. ⌜ (r .count ≤ length (r .at)) × Places (at s) 8 208 (take (r .count) (r .at)) ⌝ }
+fn column_search(logs: &[u8; 768], syndromes: [u8; 16]) -> ColumnPlaces
+    requires { ⌜ LogTable (now logs) ⌝ }
+    ensures { λ r. ⌜ r .count ≤ length (r .at) ⌝ }
+    ensures { λ r. ⌜ Places (at syndromes) 8 rowCount (take (r .count) (r .at)) ⌝ }
 {
-    let l = column_locator(t, s);
+    let locator = column_locator(logs, syndromes);
     let mut at = [0u8; 8];
-    let count = crate::search::search(t, &l, 208, &mut at);
+    let count = crate::search::search(logs, &locator, ROW_COUNT as u8, &mut at);
     ColumnPlaces { at, count }
 }
 
-fn column_mend(t: &[u8; 768], w: [u8; 208], s: [u8; 16], p: ColumnPlaces) -> [u8; 208]
-    requires { ⌜ LogTable (now t) × (p .count ≤ length (p .at)) × ((j : ℕ) → j < p .count → getD (p .at) j 0 < 208) ⌝ }
-    ensures { λ r. ⌜ r ≡ mended (at s) (take (p .count) (p .at)) w ⌝ }
+fn column_mend(
+    logs: &[u8; 768],
+    bytes: [u8; ROW_COUNT],
+    syndromes: [u8; 16],
+    places: ColumnPlaces,
+) -> [u8; ROW_COUNT]
+    requires { ⌜ LogTable (now logs)
+        × (places .count ≤ length (places .at))
+        × Places (at syndromes) 8 rowCount (take (places .count) (places .at)) ⌝ }
+    ensures { λ r. ⌜ r ≡ mended (at syndromes) (take (places .count) (places .at)) bytes ⌝ }
 {
-    let at = p.at;
-    let count = p.count;
+    let at = places.at;
+    let count = places.count;
     let mut rest = [0u8; 16];
-    let mut m = w;
-    crate::mend::mend(t, &s, &at[..count], &mut rest, &mut m);
-    m
+    let mut near = bytes;
+    crate::mend::mend(logs, &syndromes, &at[..count], &mut rest, &mut near);
+    near
 }
 
-// The repair of a column whose syndromes are s, over lent tables: of logarithms, and of the generator's multiples. The syndromes decide, before and after mending.
-pub fn correct_column_from(t: &[u8; 768], m: &[u64; 512], s: [u8; 16], r: Column) -> Column
-    requires { ⌜ LogTable (now t) × (now m ≡ multiples 16) × (s ≡ tabulate (syndrome (r .bytes)) 16) ⌝ }
-    ensures { λ q. ⌜ (q .bytes ≡ nearest 16 8 (r .bytes)) × (q .outcome ≡ outcomeOf 16 8 (r .bytes)) ⌝ }
+// The repair of a column whose syndromes are known, over lent tables: of logarithms, and of the generator's multiples. The
+// syndromes decide, before and after mending.
+pub fn correct_column_from(
+    logs: &[u8; 768],
+    table: &[u64; 512],
+    syndromes: [u8; 16],
+    column: Column,
+) -> Column
+    requires { ⌜ LogTable (now logs)
+        × (now table ≡ multiples 16)
+        × (syndromes ≡ tabulate (syndrome (column .bytes)) 16) ⌝ }
+    ensures { λ r. ⌜ r .bytes ≡ nearest 16 8 (column .bytes) ⌝ }
+    ensures { λ r. ⌜ r .outcome ≡ outcomeOf 16 8 (column .bytes) ⌝ }
 {
-    let bytes = r.bytes;
-    if crate::syndromes::all_zero(&s) {
+    let bytes = column.bytes;
+    if crate::syndromes::all_zero(&syndromes) {
         return Column {
             bytes,
             outcome: Outcome::Clean,
         };
     }
-    let p = column_search(t, s);
-    let near = column_mend(t, bytes, s, p);
-    let again = column_syndromes(t, m, near);
+    let places = column_search(logs, syndromes);
+    let near = column_mend(logs, bytes, syndromes, places);
+    let again = column_syndromes(logs, table, near);
     if crate::syndromes::all_zero(&again) {
         return Column {
             bytes: near,
@@ -91,20 +112,23 @@ pub fn correct_column_from(t: &[u8; 768], m: &[u64; 512], s: [u8; 16], r: Column
 }
 
 // The repair, over lent tables.
-pub fn correct_column_with(t: &[u8; 768], m: &[u64; 512], r: Column) -> Column
-    requires { ⌜ LogTable (now t) × (now m ≡ multiples 16) ⌝ }
-    ensures { λ q. ⌜ (q .bytes ≡ nearest 16 8 (r .bytes)) × (q .outcome ≡ outcomeOf 16 8 (r .bytes)) ⌝ }
+pub fn correct_column_with(logs: &[u8; 768], table: &[u64; 512], column: Column) -> Column
+    requires { ⌜ LogTable (now logs) ⌝ }
+    requires { ⌜ now table ≡ multiples 16 ⌝ }
+    ensures { λ r. ⌜ r .bytes ≡ nearest 16 8 (column .bytes) ⌝ }
+    ensures { λ r. ⌜ r .outcome ≡ outcomeOf 16 8 (column .bytes) ⌝ }
 {
-    let bytes = r.bytes;
-    let s = column_syndromes(t, m, bytes);
-    correct_column_from(t, m, s, r)
+    let bytes = column.bytes;
+    let syndromes = column_syndromes(logs, table, bytes);
+    correct_column_from(logs, table, syndromes, column)
 }
 
 // The repair. The outcome that comes in does not matter.
-pub fn correct_column(r: Column) -> Column
-    ensures { λ q. ⌜ (q .bytes ≡ nearest 16 8 (r .bytes)) × (q .outcome ≡ outcomeOf 16 8 (r .bytes)) ⌝ }
+pub fn correct_column(column: Column) -> Column
+    ensures { λ r. ⌜ r .bytes ≡ nearest 16 8 (column .bytes) ⌝ }
+    ensures { λ r. ⌜ r .outcome ≡ outcomeOf 16 8 (column .bytes) ⌝ }
 {
-    let t = field::log_table();
-    let m = multiples::multiples16();
-    correct_column_with(&t, &m, r)
+    let logs = field::log_table();
+    let table = multiples::multiples16();
+    correct_column_with(&logs, &table, column)
 }

@@ -1,4 +1,5 @@
-// Reed-Solomon codes over GF(256): the inner code of 182 bytes with 10 roots and the outer code of 208 bytes with 16 (ECMA-268, clause 18).
+// Reed-Solomon codes over GF(256): the inner code of 182 bytes with 10 roots and the outer code of 208 bytes with 16
+// (ECMA-268, clause 18).
 mod column;
 mod locate;
 mod mend;
@@ -19,6 +20,8 @@ pub use parity::parity16;
 pub use parity::parity16_with;
 pub use row::Row;
 pub use row::correct_row;
+pub use row::correct_row_from;
 pub use row::correct_row_with;
 pub use syndromes::all_zero;
+pub use syndromes::syndromes10;
 pub use syndromes::syndromes16;

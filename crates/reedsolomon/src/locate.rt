@@ -1,96 +1,111 @@
-// The error locator: a polynomial, lowest coefficient first, that satisfies the key equations of the syndromes. Of 1, x, x^2, .. the first is taken that
-// does so once multiples of those before it are added; one that cannot is kept, as the pivot of the first equation it fails.
+// The error locator: a polynomial, lowest coefficient first, that satisfies the key equations of the syndromes. Of 1, x,
+// x^2, .. the first is taken that does so once multiples of those before it are added; one that cannot is kept, as the
+// pivot of the first equation it fails.
 ghost use mathlib.Core.Path.{_≡_};
 ghost use Prim.Native.Nat.{ℕ, _+_, _-_, _*_, _<_, _≤_};
 ghost use lib.ListN.{length, replicate};
-ghost use Rattle.field.specs.Tables.{LogTable};
-ghost use Rattle.codes.specs.Decoding.{at, dot, mix, unit, Locator, Pivots, Candidate, Cleared, Stored};
+ghost use Rattle.field.specs.Inner.{LogTable};
+ghost use Rattle.codes.specs.Inner.{at, dot, mix, unit, Locator, Pivots, Candidate, Cleared};
 
-// c 0 * s i + c 1 * s (i + 1) + ..: 0 where the key equation i holds of c.
-fn equation(t: &[u8; 768], c: &[u8], s: &[u8], i: usize) -> u8
-    requires { ⌜ (LogTable (now t)) × (i + length (now c) ≤ length (now s)) ⌝ }
-    ensures { λ r. ⌜ r ≡ dot (now (c .entry)) (at (now (s .entry))) i ⌝ }
+// p 0 * S i + p 1 * S (i + 1) + .. over the coefficients p and the syndromes S: 0 where key equation i holds of the polynomial.
+fn equation(logs: &[u8; 768], polynomial: &[u8], syndromes: &[u8], i: usize) -> u8
+    requires { ⌜ LogTable (now logs) ⌝ }
+    requires { ⌜ i + length (now polynomial) ≤ length (now syndromes) ⌝ }
+    ensures { λ r. ⌜ r ≡ dot (now (polynomial .entry)) (at (now (syndromes .entry))) i ⌝ }
 {
     let mut sum: u8 = 0;
     let mut j: usize = 0;
-    while j < c.len() {
-        sum = sum ^ field::product(t, c[j], s[i + j]);
+    while j < polynomial.len() {
+        sum = sum ^ field::product(logs, polynomial[j], syndromes[i + j]);
         j += 1;
     }
     sum
 }
 
-// f times the polynomial c, added to v.
-fn add_multiple(t: &[u8; 768], f: u8, c: &[u8], v: &mut [u8])
-    requires { ⌜ (LogTable (now t)) × (length (now c) ≡ length (now v)) ⌝ }
-    ensures { λ r. ⌜ now (v .exit) ≡ mix f (now (c .entry)) (now (v .entry)) ⌝ }
+// A multiple of the pivot, added to the candidate.
+fn add_multiple(logs: &[u8; 768], factor: u8, pivot: &[u8], candidate: &mut [u8])
+    requires { ⌜ LogTable (now logs) ⌝ }
+    requires { ⌜ length (now pivot) ≡ length (now candidate) ⌝ }
+    ensures { λ r. ⌜ now (candidate .exit) ≡ mix factor (now (pivot .entry)) (now (candidate .entry)) ⌝ }
 {
     let mut j: usize = 0;
-    while j < v.len() {
-        v[j] = v[j] ^ field::product(t, f, c[j]);
-        j += 1;
-    }
-}
-
-fn store(m: &mut [u8], a: usize, v: &[u8])
-    requires { ⌜ a + length (now v) ≤ length (now m) ⌝ }
-    ensures { λ r. ⌜ Stored (now (m .entry)) a (now (v .entry)) (now (m .exit)) ⌝ }
-{
-    let mut j: usize = 0;
-    while j < v.len() {
-        m[a + j] = v[j];
+    while j < candidate.len() {
+        candidate[j] = candidate[j] ^ field::product(logs, factor, pivot[j]);
         j += 1;
     }
 }
 
 // x^k.
-fn set_unit(v: &mut [u8], k: usize)
-    ensures { λ r. ⌜ now (v .exit) ≡ unit (length (now (v .entry))) k ⌝ }
+fn set_unit(candidate: &mut [u8], k: usize)
+    ensures { λ r. ⌜ now (candidate .exit) ≡ unit (length (now (candidate .entry))) k ⌝ }
 {
     let mut j: usize = 0;
-    while j < v.len() {
-        v[j] = if j == k { 1 } else { 0 };
+    while j < candidate.len() {
+        candidate[j] = if j == k { 1 } else { 0 };
         j += 1;
     }
 }
 
-// Equation i, whose pivot starts at `a`: true where it holds of v, with a multiple of the pivot added if need be; false where v became its pivot.
+// Equation i, whose pivot starts at `a`: true where it holds of the candidate, with a multiple of the pivot added if need be; false
+// where the candidate became its pivot.
 fn clear_equation(
-    t: &[u8; 768],
-    s: &[u8],
+    logs: &[u8; 768],
+    syndromes: &[u8],
     pivots: &mut [u8],
-    v: &mut [u8],
+    candidate: &mut [u8],
     i: usize,
     a: usize,
 ) -> bool
-    requires { ⌜ (LogTable (now t)) × (a ≡ i * length (now v)) × (a + length (now v) ≤ length (now pivots)) × (i + length (now v) ≤ length (now s)) ⌝ }
-    ensures { λ r. ⌜ ((e k : ℕ) → i < e → Pivots (at (now (s .entry))) e (length (now (v .entry))) k (now (pivots .entry)) → Candidate (at (now (s .entry))) (length (now (v .entry))) k i (now (v .entry)) → Cleared (at (now (s .entry))) e (length (now (v .entry))) k (i + 1) (now (pivots .entry)) (now (pivots .exit)) (now (v .exit)) r) ⌝ }
+    requires { ⌜ LogTable (now logs)
+        × (a ≡ i * length (now candidate))
+        × (a + length (now candidate) ≤ length (now pivots))
+        × (i + length (now candidate) ≤ length (now syndromes)) ⌝ }
+    ensures { λ r. ⌜ ((e k : ℕ)
+        → i < e
+        → Pivots (at (now (syndromes .entry))) e (length (now (candidate .entry))) k (now (pivots .entry))
+        → Candidate (at (now (syndromes .entry))) (length (now (candidate .entry))) k i (now (candidate .entry))
+        → Cleared (at (now (syndromes .entry))) e (length (now (candidate .entry))) k (i + 1)
+        (now (pivots .entry)) (now (pivots .exit)) (now (candidate .exit)) r) ⌝ }
 {
-    let d = equation(t, v, s, i);
+    let d = equation(logs, candidate, syndromes, i);
     if d == 0 {
         return true;
     }
-    let end = a + v.len();
-    let e = equation(t, &pivots[a..end], s, i);
+    let end = a + candidate.len();
+    let e = equation(logs, &pivots[a..end], syndromes, i);
     if e == 0 {
-        store(pivots, a, v);
+        bytes::put(pivots, a, candidate);
         return false;
     }
-    let f = field::product(t, d, field::inverse_of(t, e));
-    add_multiple(t, f, &pivots[a..end], v);
+    let f = field::product(logs, d, field::inverse_of(logs, e));
+    add_multiple(logs, f, &pivots[a..end], candidate);
     true
 }
 
-// The equations in turn: true where all hold of v, false where v became a pivot.
-fn clear_equations(t: &[u8; 768], s: &[u8], pivots: &mut [u8], v: &mut [u8]) -> bool
-    requires { ⌜ (LogTable (now t)) × (0 < length (now v)) × (length (now pivots) ≡ (length (now v) - 1) * length (now v)) × (length (now v) + length (now v) ≤ length (now s) + 2) ⌝ }
-    ensures { λ r. ⌜ ((k : ℕ) → Pivots (at (now (s .entry))) (length (now (v .entry)) - 1) (length (now (v .entry))) k (now (pivots .entry)) → Candidate (at (now (s .entry))) (length (now (v .entry))) k 0 (now (v .entry)) → Cleared (at (now (s .entry))) (length (now (v .entry)) - 1) (length (now (v .entry))) k (length (now (v .entry)) - 1) (now (pivots .entry)) (now (pivots .exit)) (now (v .exit)) r) ⌝ }
+// The equations in turn: true where all hold of the candidate, false where it became a pivot.
+fn clear_equations(
+    logs: &[u8; 768],
+    syndromes: &[u8],
+    pivots: &mut [u8],
+    candidate: &mut [u8],
+) -> bool
+    requires { ⌜ LogTable (now logs)
+        × (0 < length (now candidate))
+        × (length (now pivots) ≡ (length (now candidate) - 1) * length (now candidate))
+        × (length (now candidate) + length (now candidate) ≤ length (now syndromes) + 2) ⌝ }
+    ensures { λ r. ⌜ ((k : ℕ)
+        → Pivots (at (now (syndromes .entry))) (length (now (candidate .entry)) - 1)
+        (length (now (candidate .entry))) k (now (pivots .entry))
+        → Candidate (at (now (syndromes .entry))) (length (now (candidate .entry))) k 0 (now (candidate .entry))
+        → Cleared (at (now (syndromes .entry))) (length (now (candidate .entry)) - 1)
+        (length (now (candidate .entry))) k (length (now (candidate .entry)) - 1) (now (pivots .entry))
+        (now (pivots .exit)) (now (candidate .exit)) r) ⌝ }
 {
-    let w = v.len();
+    let w = candidate.len();
     let mut i: usize = 0;
     let mut a: usize = 0;
     while i < w - 1 {
-        if !clear_equation(t, s, pivots, v, i, a) {
+        if !clear_equation(logs, syndromes, pivots, candidate, i, a) {
             return false;
         }
         i += 1;
@@ -99,16 +114,20 @@ fn clear_equations(t: &[u8; 768], s: &[u8], pivots: &mut [u8], v: &mut [u8]) -> 
     true
 }
 
-// A locator for the syndromes s, in v. `pivots` is scratch, filled with zeros.
-pub(crate) fn locate(t: &[u8; 768], s: &[u8], pivots: &mut [u8], v: &mut [u8])
-    requires { ⌜ (LogTable (now t)) × (0 < length (now v)) × (now pivots ≡ replicate ((length (now v) - 1) * length (now v)) 0) × (length (now v) + length (now v) ≤ length (now s) + 2) ⌝ }
-    ensures { λ r. ⌜ Locator (at (now (s .entry))) (length (now (v .entry)) - 1) (now (v .exit)) ⌝ }
+// A locator for the syndromes. `pivots` is scratch, filled with zeros.
+pub(crate) fn locate(logs: &[u8; 768], syndromes: &[u8], pivots: &mut [u8], locator: &mut [u8])
+    requires { ⌜ LogTable (now logs)
+        × (0 < length (now locator))
+        × (now pivots ≡ replicate ((length (now locator) - 1) * length (now locator)) 0)
+        × (length (now locator) + length (now locator) ≤ length (now syndromes) + 2) ⌝ }
+    ensures { λ r. ⌜ Locator (at (now (syndromes .entry))) (length (now (locator .entry)) - 1)
+        (now (locator .exit)) ⌝ }
 {
-    let w = v.len();
+    let w = locator.len();
     let mut k: usize = 0;
     while k < w {
-        set_unit(v, k);
-        if clear_equations(t, s, pivots, v) {
+        set_unit(locator, k);
+        if clear_equations(logs, syndromes, pivots, locator) {
             return;
         }
         k += 1;

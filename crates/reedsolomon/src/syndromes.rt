@@ -3,47 +3,48 @@ ghost use mathlib.Core.Path.{_≡_};
 ghost use Prim.Native.Nat.{_≤_};
 ghost use lib.ListN.{length, take};
 ghost use Rattle.lists.specs.Fill.{tabulate};
-ghost use Rattle.field.specs.Tables.{LogTable};
+ghost use Rattle.field.specs.Inner.{LogTable};
 ghost use Rattle.codes.specs.Word.{valueAt, syndrome, allZero};
-ghost use Rattle.division.specs.Unpacked.{unpacked};
+ghost use Rattle.division.specs.Inner.{unpacked};
 use division::Remainder;
 
 // The value of a word at x.
-fn value_of(t: &[u8; 768], w: &[u8], x: u8) -> u8
-    requires { ⌜ LogTable (now t) ⌝ }
-    ensures { λ r. ⌜ r ≡ valueAt (now (w .entry)) x ⌝ }
+fn value_of(logs: &[u8; 768], word: &[u8], x: u8) -> u8
+    requires { ⌜ LogTable (now logs) ⌝ }
+    ensures { λ r. ⌜ r ≡ valueAt (now (word .entry)) x ⌝ }
 {
     let mut v: u8 = 0;
     let mut i: usize = 0;
-    while i < w.len() {
-        v = field::product(t, v, x) ^ w[i];
+    while i < word.len() {
+        v = field::product(logs, v, x) ^ word[i];
         i += 1;
     }
     v
 }
 
 // The syndromes of a word, as many as `out` has places.
-pub(crate) fn syndromes_into(t: &[u8; 768], w: &[u8], out: &mut [u8])
-    requires { ⌜ (LogTable (now t)) × (length (now out) ≤ 255) ⌝ }
-    ensures { λ r. ⌜ now (out .exit) ≡ tabulate (syndrome (now (w .entry))) (length (now (out .entry))) ⌝ }
+pub(crate) fn syndromes_into(logs: &[u8; 768], word: &[u8], out: &mut [u8])
+    requires { ⌜ LogTable (now logs) ⌝ }
+    requires { ⌜ length (now out) ≤ 255 ⌝ }
+    ensures { λ r. ⌜ now (out .exit) ≡ tabulate (syndrome (now (word .entry))) (length (now (out .entry))) ⌝ }
 {
     let mut i: usize = 0;
     let mut k: u8 = 0;
     while i < out.len() {
-        let x = field::alpha_power(t, k);
-        out[i] = value_of(t, w, x);
+        let x = field::alpha_power(logs, k);
+        out[i] = value_of(logs, word, x);
         i += 1;
         k += 1;
     }
 }
 
 // Whether all are 0. Of the syndromes of a word: whether it is a code word.
-pub fn all_zero(s: &[u8]) -> bool
-    ensures { λ r. ⌜ r ≡ allZero (now (s .entry)) ⌝ }
+pub fn all_zero(syndromes: &[u8]) -> bool
+    ensures { λ r. ⌜ r ≡ allZero (now (syndromes .entry)) ⌝ }
 {
     let mut k: usize = 0;
-    while k < s.len() {
-        if s[k] != 0 {
+    while k < syndromes.len() {
+        if syndromes[k] != 0 {
             return false;
         }
         k += 1;
@@ -51,29 +52,30 @@ pub fn all_zero(s: &[u8]) -> bool
     true
 }
 
-// The syndromes of what is left of a word by the generator, which are the word's own: ten, and sixteen. Where nothing is left they are zeros, at once.
-pub(crate) fn syndromes10(t: &[u8; 768], x: Remainder) -> [u8; 10]
-    requires { ⌜ LogTable (now t) ⌝ }
-    ensures { λ r. ⌜ r ≡ tabulate (syndrome (take 10 (unpacked (x .high) (x .low)))) 10 ⌝ }
+// The syndromes of what is left of a word by the generator, which are the word's own: ten, and sixteen. Where nothing is
+// left they are zeros, at once.
+pub fn syndromes10(logs: &[u8; 768], left: Remainder) -> [u8; 10]
+    requires { ⌜ LogTable (now logs) ⌝ }
+    ensures { λ r. ⌜ r ≡ tabulate (syndrome (take 10 (unpacked (left .high) (left .low)))) 10 ⌝ }
 {
-    let mut s = [0u8; 10];
-    if division::is_zero(x) {
-        return s;
+    let mut out = [0u8; 10];
+    if division::is_zero(left) {
+        return out;
     }
-    let b = parity::unpack10(x.high, x.low);
-    syndromes_into(t, &b, &mut s);
-    s
+    let bytes = parity::unpack10(left.high, left.low);
+    syndromes_into(logs, &bytes, &mut out);
+    out
 }
 
-pub fn syndromes16(t: &[u8; 768], x: Remainder) -> [u8; 16]
-    requires { ⌜ LogTable (now t) ⌝ }
-    ensures { λ r. ⌜ r ≡ tabulate (syndrome (take 16 (unpacked (x .high) (x .low)))) 16 ⌝ }
+pub fn syndromes16(logs: &[u8; 768], left: Remainder) -> [u8; 16]
+    requires { ⌜ LogTable (now logs) ⌝ }
+    ensures { λ r. ⌜ r ≡ tabulate (syndrome (take 16 (unpacked (left .high) (left .low)))) 16 ⌝ }
 {
-    let mut s = [0u8; 16];
-    if division::is_zero(x) {
-        return s;
+    let mut out = [0u8; 16];
+    if division::is_zero(left) {
+        return out;
     }
-    let b = parity::unpack(x.high, x.low);
-    syndromes_into(t, &b, &mut s);
-    s
+    let bytes = parity::unpack(left.high, left.low);
+    syndromes_into(logs, &bytes, &mut out);
+    out
 }

@@ -8,8 +8,9 @@ use Prim.Native.Nat.{ℕ, zero, suc}
 use borrow.Author.Tests.{eq-eqb, ne-eqb, eqb-false}
 use lib.Dec.{eqb}
 use lib.ListN.{length}
-use Rattle.dataframe.specs.Checks.{numberOf}
-use Rattle.eccblock.specs.Parts.{rowOf, columnOf, frameOf, mainOfBlock}
+use Rattle.dataframe.specs.Checks.{numberOf, mainOfBlock}
+use Rattle.layout.specs.Rows.{rowOf, columnOf, frameOf}
+use Rattle.layout.specs.Lengths.{mainSize, blockSize, rowCount, columnCount}
 use Rattle.repairer.specs.Repair.{rowsRepaired, columnsRepaired, repaired, tallyOf, talliesOf}
 use Rattle.repairer.specs.Answer.{frameFault, judged, lengthsFit, repairAnswer, handsOut, blockAfter, mainAfter, repairNumber, repairRefusal, repairFrame, refusedFrame}
 use Rattle.repairer.specs.declared.Tally.{Tally}
@@ -44,13 +45,13 @@ abbrev both : Tally → Tally → Tallies
 both x y = record { rows = x; columns = y }
 
 pub stages :
-    (xs ys zs : List ℕ) (m n : Tally) (r : Repaired) → (m ≡ tallyOf 10 5 (rowOf xs) 208) × (ys ≡ rowsRepaired xs)
-    → (n ≡ tallyOf 16 8 (columnOf ys) 172) × (zs ≡ columnsRepaired ys)
+    (xs ys zs : List ℕ) (m n : Tally) (r : Repaired) → (m ≡ tallyOf 10 5 (rowOf xs) rowCount) × (ys ≡ rowsRepaired xs)
+    → (n ≡ tallyOf 16 8 (columnOf ys) columnCount) × (zs ≡ columnsRepaired ys)
     → r ≡ judged zs 0 16 (Block (numberOf (frameOf zs 0)) (record { rows = m; columns = n })) → Verdict xs zs r
 unfolding repaired talliesOf
 stages xs ys zs m n r a b d =
     let z : zs ≡ columnsRepaired (rowsRepaired xs) = b .1 ∙ ap columnsRepaired (a .1) in
-    let v : n ≡ tallyOf 16 8 (columnOf (rowsRepaired xs)) 172 = b .0 ∙ ap (λ (w : List ℕ). tallyOf 16 8 (columnOf w) 172) (a .1) in
+    let v : n ≡ tallyOf 16 8 (columnOf (rowsRepaired xs)) columnCount = b .0 ∙ ap (λ (w : List ℕ). tallyOf 16 8 (columnOf w) columnCount) (a .1) in
     record {
       block = z;
       answer = d ∙ ap₂ (λ (w : List ℕ) (x : Tallies). judged w 0 16 (Block (numberOf (frameOf w 0)) x)) z (ap₂ both (a .0) v);
@@ -78,18 +79,18 @@ module _ (xs old : List ℕ) where
   unfolding repairAnswer blockAfter mainAfter
   misfit e = meets xs old LengthRefused xs old (rw e) (rw e) (rw e)
 
-  pub block-misfits : length xs ≢ 37856 → Meets xs old LengthRefused xs old
+  pub block-misfits : length xs ≢ blockSize → Meets xs old LengthRefused xs old
   unfolding lengthsFit
-  block-misfits n = misfit (rw (ne-eqb (length xs) 37856 n))
+  block-misfits n = misfit (rw (ne-eqb (length xs) blockSize n))
 
-  pub main-misfits : length xs ≡ 37856 → length old ≢ 32768 → Meets xs old LengthRefused xs old
+  pub main-misfits : length xs ≡ blockSize → length old ≢ mainSize → Meets xs old LengthRefused xs old
   unfolding lengthsFit
-  main-misfits e n = misfit (rw (eq-eqb (length xs) 37856 e, ne-eqb (length old) 32768 n))
+  main-misfits e n = misfit (rw (eq-eqb (length xs) blockSize e, ne-eqb (length old) mainSize n))
 
-  module _ (e : length xs ≡ 37856) (f : length old ≡ 32768) where
+  module _ (e : length xs ≡ blockSize) (f : length old ≡ mainSize) where
     fit : lengthsFit xs (length old) ≡ true
     unfolding lengthsFit
-    fit = rw (eq-eqb (length xs) 37856 e, eq-eqb (length old) 32768 f)
+    fit = rw (eq-eqb (length xs) blockSize e, eq-eqb (length old) mainSize f)
 
     answered : verdict xs ≡ repairAnswer xs (length old)
     unfolding repairAnswer

@@ -8,8 +8,9 @@ use Rattle.lists.proofs.Count.{count-snoc, count-le}
 use Rattle.codes.specs.Nearest.{outcomeOf}
 use Rattle.codes.specs.declared.Outcome.{Outcome}
 use Rattle.codes.specs.declared.Outcome.the-variants.{Clean, Corrected, Uncorrectable}
+use Rattle.layout.specs.Lengths.{rowCount}
 use Rattle.repairer.specs.Repair.{isCorrected, isUncorrectable, tallyOf}
-use Rattle.repairer.specs.Steps.{counted}
+use Rattle.repairer.specs.Inner.{counted}
 use Rattle.repairer.specs.declared.Tally.{Tally}
 
 abbrev both : ℕ → ℕ → Tally
@@ -47,7 +48,7 @@ module _ (p t : ℕ) (w : ℕ → List ℕ) where
   unfolding tallyOf
   tally-uncorrectable n = count-le (λ i. isUncorrectable (outcomeOf p t (w i))) 0 n
 
-  pub tally-small : (n : ℕ) (m : Tally) → m ≡ tallyOf p t w n → n < 208 → (m .corrected < 208) × (m .uncorrectable < 208)
+  pub tally-small : (n : ℕ) (m : Tally) → m ≡ tallyOf p t w n → n < rowCount → (m .corrected < rowCount) × (m .uncorrectable < rowCount)
   tally-small n m e h =
       (omega (arith, ap (λ (x : Tally). x .corrected) e, tally-corrected n), omega (arith, ap (λ (x : Tally). x .uncorrectable) e, tally-uncorrectable n))
 

@@ -4,22 +4,22 @@ use mathlib.Core.Path.{_≡_, ap, ap₂, subst, _∙_}
 use mathlib.Core.Bool.{cond}
 use mathlib.Core.List.{List}
 use mathlib.Core.Logic.{_≢_}
-use Prim.Native.Nat.{ℕ, suc, _+_, _*_, _-_, _/_, _%_, _<_}
+use Prim.Native.Nat.{ℕ, suc, _+_, _*_, _-_, _/_, _%_, _<_, _≤_}
 use native.Mathlib.Numerals.{add-one}
 use native.Mathlib.Omega.{arith}
 use borrow.Author.Tests.{eq-eqb, ne-eqb}
 use lib.Dec.{eqb}
-use lib.ListN.{length, getD, take, drop}
-use lib.Seq.{getD-take, getD-drop}
+use lib.ListN.{length, getD, take, drop, length-drop}
+use lib.Seq.{sets, length-take-le}
 use Rattle.lists.proofs.Fill.{Upto, upto-all}
-use Rattle.dataframe.specs.Checks.{infoOf, numberOf, unscrambled, mainOf, frameRefusal}
-use Rattle.eccblock.specs.Stages.{Stored}
-use Rattle.eccblock.specs.Parts.{frameOf, mainOfBlock}
+use Rattle.dataframe.specs.Checks.{infoOf, numberOf, unscrambled, mainOf, frameRefusal, mainOfBlock}
+use Rattle.bytes.specs.Inner.{Stored, following}
+use Rattle.layout.specs.Rows.{frameOf}
+use Rattle.layout.specs.Lengths.{mainSize, frameSize, frameMainSize}
 use Rattle.repairer.specs.Answer.{frameFault, judged}
-use Rattle.repairer.specs.Steps.{mainPlace}
 use Rattle.repairer.specs.declared.Repaired.{Repaired}
 use Rattle.repairer.specs.declared.Repaired.the-variants.{FrameRefused}
-use Rattle.repairer.proofs.Parts.{upto-part}
+use Rattle.bytes.proofs.Copies.{put-stored, upto-row}
 
 -- ---- the judgement
 
@@ -49,28 +49,34 @@ fault-is ys k f g first info n a b c d e = cc
 
 -- ---- the main data
 
-pub main-byte : (f : List ℕ) (i : ℕ) → i < 2048 → getD (take 2048 (drop 12 f)) i 0 ≡ getD f (12 + i) 0
-main-byte f i h = getD-take 2048 (drop 12 f) i 0 h ∙ getD-drop 12 f i 0
-
 -- the byte p of the main data of a block
 abbrev pub mainByte : List ℕ → ℕ → ℕ
-mainByte ys p = getD (mainOf (frameOf ys (p / 2048))) (p % 2048) 0
+mainByte ys p = getD (mainOf (frameOf ys (p / frameMainSize))) (p % frameMainSize) 0
 
-pub main-more :
-    (ys old xs new f : List ℕ) (k : ℕ) → f ≡ unscrambled (frameOf ys k) → Stored (mainPlace k) (take 2048 (drop 12 f)) xs new 2048
-    → Upto (mainByte ys) old xs (k * 2048) → Upto (mainByte ys) old new ((k + 1) * 2048)
-unfolding mainOf
-main-more ys old xs new f k e w u =
-    let n : k * 2048 + 2048 ≡ (k + 1) * 2048 = omega arith in
-    subst (Upto (mainByte ys) old new) n (upto-part (mainByte ys) (take 2048 (drop 12 f)) old xs new (k * 2048) 2048 each w u)
-  where
-    each : (i : ℕ) → i < 2048 → getD (take 2048 (drop 12 f)) i 0 ≡ mainByte ys (k * 2048 + i)
-    each i l =
-        let a : k ≡ (k * 2048 + i) / 2048 = omega arith in
-        let b : i ≡ (k * 2048 + i) % 2048 = omega arith in
-        ap (λ (g : List ℕ). getD (take 2048 (drop 12 g)) i 0) e
-        ∙ ap₂ (λ (x y : ℕ). getD (take 2048 (drop 12 (unscrambled (frameOf ys x)))) y 0) a b
+-- the main data in a frame
+pub part-length : (f : List ℕ) → length f ≡ frameSize → length (take frameMainSize (drop 12 f)) ≡ frameMainSize
+part-length f e = length-take-le frameMainSize (drop 12 f) (rw length-drop (omega arith))
 
-pub main-all : (ys old xs : List ℕ) → length old ≡ 32768 → Upto (mainByte ys) old xs 32768 → xs ≡ mainOfBlock ys
+-- the main data of frame k, put after those of the frames before it
+module _ (ys old xs new f : List ℕ) (k : ℕ) (e : f ≡ unscrambled (frameOf ys k)) (size : length f ≡ frameSize) where
+  abbrev part : List ℕ
+  part = take frameMainSize (drop 12 f)
+
+  part-byte : (i : ℕ) → i < frameMainSize → getD part i 0 ≡ mainByte ys (k * frameMainSize + i)
+  unfolding mainOf
+  part-byte i l =
+      let a : k ≡ (k * frameMainSize + i) / frameMainSize = omega arith in
+      let b : i ≡ (k * frameMainSize + i) % frameMainSize = omega arith in
+      ap (λ (g : List ℕ). getD (take frameMainSize (drop 12 g)) i 0) e
+      ∙ ap₂ (λ (x y : ℕ). getD (take frameMainSize (drop 12 (unscrambled (frameOf ys x)))) y 0) a b
+
+  pub main-more :
+      (k + 1) * frameMainSize ≤ length old → new ≡ sets xs (k * frameMainSize) part → Upto (mainByte ys) old xs (k * frameMainSize) → Upto (mainByte ys) old new ((k + 1) * frameMainSize)
+  main-more room put u =
+      let n : k * frameMainSize + frameMainSize ≡ (k + 1) * frameMainSize = omega arith in
+      let stored : Stored (following (k * frameMainSize)) part xs new frameMainSize = put-stored part xs new (k * frameMainSize) frameMainSize (part-length f size) (omega (arith, u .same)) put in
+      subst (Upto (mainByte ys) old new) n (upto-row (mainByte ys) old xs new part (k * frameMainSize) frameMainSize part-byte u stored)
+
+pub main-all : (ys old xs : List ℕ) → length old ≡ mainSize → Upto (mainByte ys) old xs mainSize → xs ≡ mainOfBlock ys
 unfolding mainOfBlock
-main-all ys old xs e u = upto-all (mainByte ys) old xs 32768 e u
+main-all ys old xs e u = upto-all (mainByte ys) old xs mainSize e u

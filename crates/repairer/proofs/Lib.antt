@@ -1,9 +1,6 @@
-pub mod CleanLaws
-pub mod DivisionLaws
-pub mod Parts
-pub mod Counting
-pub mod RowLaws
+pub mod Along
 pub mod ColumnLaws
+pub mod Counting
 pub mod FrameLaws
 pub mod Numbers
 pub mod Answers

@@ -10,7 +10,7 @@ use native.Mathlib.Omega.{arith}
 use borrow.Author.Tests.{lt-ltb, eqb-true, eqb-false}
 use lib.Dec.{eqb, ltb}
 use Rattle.dataframe.specs.Checks.{numberOf}
-use Rattle.eccblock.specs.Parts.{frameOf}
+use Rattle.layout.specs.Rows.{frameOf}
 use Rattle.repairer.specs.Repair.{repaired, talliesOf}
 use Rattle.repairer.specs.Answer.{frameFault, judged, lengthsFit, repairAnswer, noFrame, firstFailing, refusedFrame, repairRefusal, repairNumber, repairFrame}
 use Rattle.repairer.specs.declared.Repaired.{Repaired}

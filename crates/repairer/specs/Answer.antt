@@ -5,8 +5,9 @@ use mathlib.Core.List.{List}
 use Prim.Native.Nat.{ℕ, zero, suc}
 use lib.Dec.{eqb, ltb}
 use lib.ListN.{length}
-use Rattle.dataframe.specs.Checks.{infoOf, numberOf, frameRefusal}
-use Rattle.eccblock.specs.Parts.{frameOf, mainOfBlock}
+use Rattle.dataframe.specs.Checks.{infoOf, numberOf, mainOfBlock, frameRefusal}
+use Rattle.layout.specs.Rows.{frameOf}
+use Rattle.layout.specs.Lengths.{mainSize, blockSize, sectorCount}
 use Rattle.repairer.specs.Repair.{repaired, talliesOf}
 use Rattle.repairer.specs.declared.Repaired.{Repaired}
 use Rattle.repairer.specs.declared.Repaired.the-variants.{Block, FrameRefused, LengthRefused}
@@ -22,11 +23,11 @@ judged ys k (suc n) a = cond (eqb (frameFault ys k) 0) (judged ys (suc k) n a) (
 
 -- the lengths that the block buffer and the main data buffer have to have
 unfoldable pub lengthsFit : List ℕ → ℕ → Bool
-lengthsFit xs n = eqb (length xs) 37856 && eqb n 32768
+lengthsFit xs n = eqb (length xs) blockSize && eqb n mainSize
 
 -- the answer to a block buffer that holds xs and a main data buffer of n bytes
 unfoldable pub repairAnswer : List ℕ → ℕ → Repaired
-repairAnswer xs n = cond (lengthsFit xs n) (judged (repaired xs) 0 16 (Block (numberOf (frameOf (repaired xs) 0)) (talliesOf xs))) LengthRefused
+repairAnswer xs n = cond (lengthsFit xs n) (judged (repaired xs) 0 sectorCount (Block (numberOf (frameOf (repaired xs) 0)) (talliesOf xs))) LengthRefused
 
 -- the main data are handed out
 abbrev pub handsOut : Repaired → Bool
@@ -55,7 +56,7 @@ firstFailing ys k (suc n) = cond (eqb (frameFault ys k) 0) (firstFailing ys (suc
 
 -- the frame that a call is refused for: the first that fails of the block after both repairs. None where all pass, and none where a length is wrong
 unfoldable pub refusedFrame : List ℕ → ℕ → ℕ
-refusedFrame xs n = cond (lengthsFit xs n) (firstFailing (repaired xs) 0 16) noFrame
+refusedFrame xs n = cond (lengthsFit xs n) (firstFailing (repaired xs) 0 sectorCount) noFrame
 
 -- the number that a call is refused with: 1 where a length is wrong; else that of the frame refused, the lowest of 4, 5 and 6 that applies in it; 0 where all pass
 unfoldable pub repairRefusal : List ℕ → ℕ → ℕ

@@ -1,3 +1,3 @@
 pub mod Repair
 pub mod Answer
-pub mod Steps
+pub mod Inner

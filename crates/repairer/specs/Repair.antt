@@ -11,18 +11,18 @@ use Rattle.lists.specs.Count.{countFrom}
 use Rattle.codes.specs.Nearest.{nearest, outcomeOf}
 use Rattle.codes.specs.declared.Outcome.{Outcome}
 use Rattle.codes.specs.declared.Outcome.the-variants.{Clean, Corrected, Uncorrectable}
-use Rattle.eccblock.specs.Block.{originalRow}
-use Rattle.eccblock.specs.Parts.{rowOf, columnOf}
+use Rattle.layout.specs.Rows.{originalRow, rowOf, columnOf}
+use Rattle.layout.specs.Lengths.{blockSize, rowCount, rowSize, columnCount}
 use Rattle.repairer.specs.declared.Tally.{Tally}
 use Rattle.repairer.specs.declared.Tallies.{Tallies}
 
 -- each of the 208 rows becomes the one code row within five bytes, or stays
 unfoldable pub rowsRepaired : List ℕ → List ℕ
-rowsRepaired xs = tabulate (λ p. getD (nearest 10 5 (rowOf xs (p / 182))) (p % 182) 0) 37856
+rowsRepaired xs = tabulate (λ p. getD (nearest 10 5 (rowOf xs (p / rowSize))) (p % rowSize) 0) blockSize
 
 -- each of columns 0 to 171 becomes the one code column within eight bytes, or stays
 unfoldable pub columnsRepaired : List ℕ → List ℕ
-columnsRepaired xs = tabulate (λ p. cond (ltb (p % 182) 172) (getD (nearest 16 8 (columnOf xs (p % 182))) (originalRow (p / 182)) 0) (getD xs p 0)) 37856
+columnsRepaired xs = tabulate (λ p. cond (ltb (p % rowSize) columnCount) (getD (nearest 16 8 (columnOf xs (p % rowSize))) (originalRow (p / rowSize)) 0) (getD xs p 0)) blockSize
 
 -- rows first, then columns
 unfoldable pub repaired : List ℕ → List ℕ
@@ -48,4 +48,4 @@ tallyOf p t w n = record {
 
 -- the rows as they came in, and the columns as the repaired rows leave them
 unfoldable pub talliesOf : List ℕ → Tallies
-talliesOf xs = record { rows = tallyOf 10 5 (rowOf xs) 208; columns = tallyOf 16 8 (columnOf (rowsRepaired xs)) 172 }
+talliesOf xs = record { rows = tallyOf 10 5 (rowOf xs) rowCount; columns = tallyOf 16 8 (columnOf (rowsRepaired xs)) columnCount }

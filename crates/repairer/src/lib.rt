@@ -1,14 +1,20 @@
-// The block repairer (document 01, 'Reading a word, and the repair'): rows, then columns, then the frames' checks, then the main data.
+// The block repairer (document 01, 'Reading a word, and the repair'): rows, then columns, then the frames' checks, then the
+// main data.
 ghost use mathlib.Core.Path.{_≡_};
 ghost use Prim.Native.Nat.{_<_};
 ghost use lib.ListN.{length};
+ghost use Rattle.layout.specs.Lengths.{rowCount};
 ghost use Rattle.repairer.specs.Answer.{repairAnswer, blockAfter, mainAfter, repairNumber, repairRefusal, repairFrame, refusedFrame};
-ghost use Rattle.repairer.specs.Steps.{counted};
+ghost use Rattle.repairer.specs.Inner.{counted};
 use codes::Outcome;
+use layout::BLOCK_SIZE;
+use layout::MAIN_SIZE;
+use words::Axis;
 
 mod columns;
 mod frames;
 mod rows;
+mod words;
 
 // How many words were corrected, and how many are past help.
 pub struct Tally {
@@ -32,28 +38,29 @@ pub enum Repaired {
 }
 
 // A tally with one word more.
-fn count_word(n: Tally, o: Outcome) -> Tally
-    requires { ⌜ (n .corrected < 208) × (n .uncorrectable < 208) ⌝ }
-    ensures { λ r. ⌜ r ≡ counted n o ⌝ }
+fn count_word(tally: Tally, outcome: Outcome) -> Tally
+    requires { ⌜ tally .corrected < rowCount ⌝ }
+    requires { ⌜ tally .uncorrectable < rowCount ⌝ }
+    ensures { λ r. ⌜ r ≡ counted tally outcome ⌝ }
 {
-    match o {
-        Outcome::Clean => n,
+    match outcome {
+        Outcome::Clean => tally,
         Outcome::Corrected => Tally {
-            corrected: n.corrected + 1,
-            uncorrectable: n.uncorrectable,
+            corrected: tally.corrected + 1,
+            uncorrectable: tally.uncorrectable,
         },
         Outcome::Uncorrectable => Tally {
-            corrected: n.corrected,
-            uncorrectable: n.uncorrectable + 1,
+            corrected: tally.corrected,
+            uncorrectable: tally.uncorrectable + 1,
         },
     }
 }
 
 // Document 01's number of an answer, 0 where nothing is refused.
-pub fn repair_number(r: Repaired) -> u8
-    ensures { λ n. ⌜ n ≡ repairNumber r ⌝ }
+pub fn repair_number(answer: Repaired) -> u8
+    ensures { λ r. ⌜ r ≡ repairNumber answer ⌝ }
 {
-    match r {
+    match answer {
         Repaired::Block {
             first: _,
             tallies: _,
@@ -63,7 +70,8 @@ pub fn repair_number(r: Repaired) -> u8
     }
 }
 
-// The block repairer. The tables are made once a block and lent from there on. The main data buffer is written only when every frame has passed.
+// The block repairer. The tables are made once a block and lent from there on. The main data buffer is written only when
+// every frame has passed.
 pub fn repair_block(block: &mut [u8], main: &mut [u8]) -> Repaired
     ensures { λ r. ⌜ r ≡ repairAnswer (now (block .entry)) (length (now (main .entry))) ⌝ }
     ensures { λ r. ⌜ repairNumber r ≡ repairRefusal (now (block .entry)) (length (now (main .entry))) ⌝ }
@@ -71,18 +79,18 @@ pub fn repair_block(block: &mut [u8], main: &mut [u8]) -> Repaired
     ensures { λ r. ⌜ now (block .exit) ≡ blockAfter (now (block .entry)) (length (now (main .entry))) ⌝ }
     ensures { λ r. ⌜ now (main .exit) ≡ mainAfter (now (block .entry)) (now (main .entry)) ⌝ }
 {
-    if block.len() != 37856 {
+    if block.len() != BLOCK_SIZE {
         return Repaired::LengthRefused;
     }
-    if main.len() != 32768 {
+    if main.len() != MAIN_SIZE {
         return Repaired::LengthRefused;
     }
-    let t = field::log_table();
+    let logs = field::log_table();
     let inner = multiples::multiples10();
-    let rows = rows::repair_rows(&t, &inner, block);
+    let rows = words::repair_words(Axis::Rows, &logs, &inner, block);
     let outer = multiples::multiples16();
-    let columns = columns::repair_columns(&t, &outer, block);
-    let answer = frames::judge_frames(&t, block, Tallies { rows, columns });
+    let columns = words::repair_words(Axis::Columns, &logs, &outer, block);
+    let answer = frames::judge_frames(&logs, block, Tallies { rows, columns });
     if repair_number(answer) != 0 {
         return answer;
     }

@@ -10,20 +10,16 @@ use lib.Pow.{pow-pos}
 use Rattle.lists.specs.Test.{below}
 use Rattle.lists.proofs.Test.{below-at}
 use Rattle.field.specs.Field.{add}
-use Rattle.field.proofs.Field.{bit, add-assoc, add-swap, add-cancel}
+use Rattle.field.proofs.Sums.{bit, add-assoc, add-swap, add-cancel, add-mod, add-div, add-shift, add-parts, digit-add, sum-bit, Linear}
 use Rattle.scrambling.specs.Scrambling.{shifted, register, scramblingByte}
-use Rattle.edc.proofs.Sums.{add-mod, add-div, add-shift, add-parts, digit-add, sum-bit}
 use Rattle.scrambling.proofs.Scrambled.{register-add}
 
 -- ---- linear functions of the register
 
-abbrev Linear : (ℕ → ℕ) → Type 0
-Linear f = (r s : ℕ) → f (add r s) ≡ add (f r) (f s)
-
 -- they are known by their values at 0 to 255 and at the multiples of 256
 linear-same :
     (f g : ℕ → ℕ) → Linear f → Linear g → T (below 256 (λ a. eqb (f a) (g a))) → T (below 128 (λ a. eqb (f (a * 256)) (g (a * 256))))
-    → (r : ℕ) → r < 32768 → f r ≡ g r
+    → (r : ℕ) → r < 0x8000 → f r ≡ g r
 linear-same f g hf hg low high r h =
     let a : ℕ = r / 256 in
     let b : ℕ = r % 256 in
@@ -34,19 +30,19 @@ linear-same f g hf hg low high r h =
     ∙ sym (hg (a * 256) b) ∙ ap g e
 
 -- a shift as a sum
-shifted-sum : (r : ℕ) → shifted r ≡ add (r * 2 % 32768) (add (r / 16384 % 2) (r / 1024 % 2))
+shifted-sum : (r : ℕ) → shifted r ≡ add (r * 2 % 0x8000) (add (r / 16384 % 2) (r / 1024 % 2))
 unfolding shifted add
 shifted-sum r =
     let b : ℕ = (r / 16384 + r / 1024) % 2 in
-    let e : r * 2 % 32768 ≡ r % 16384 * 2 = omega arith in
+    let e : r * 2 % 0x8000 ≡ r % 16384 * 2 = omega arith in
     ap (λ (x : ℕ). x + b) e ∙ sym (xor-shifted (r % 16384) 1 b (bit (r / 16384 + r / 1024))) ∙ ap₂ bitXor (sym e) (sum-bit (r / 16384) (r / 1024))
 
 shifted-add : Linear shifted
 shifted-add r s =
     shifted-sum (add r s)
-    ∙ ap₂ add (ap (λ (x : ℕ). x % 32768) (add-shift 1 r s) ∙ add-mod 15 (r * 2) (s * 2))
+    ∙ ap₂ add (ap (λ (x : ℕ). x % 0x8000) (add-shift 1 r s) ∙ add-mod 15 (r * 2) (s * 2))
     (ap₂ add (digit-add 14 r s) (digit-add 10 r s) ∙ add-swap (r / 16384 % 2) (s / 16384 % 2) (r / 1024 % 2) (s / 1024 % 2))
-    ∙ add-swap (r * 2 % 32768) (s * 2 % 32768) (add (r / 16384 % 2) (r / 1024 % 2)) (add (s / 16384 % 2) (s / 1024 % 2))
+    ∙ add-swap (r * 2 % 0x8000) (s * 2 % 0x8000) (add (r / 16384 % 2) (r / 1024 % 2)) (add (s / 16384 % 2) (s / 1024 % 2))
     ∙ sym (ap₂ add (shifted-sum r) (shifted-sum s))
 
 register-sum : (n : ℕ) → Linear (λ r. register r n)
@@ -81,7 +77,7 @@ eight-high : T (below 128 (λ a. eqb (register (a * 256) 8) (eight (a * 256))))
 unfolding register shifted eight add
 eight-high = tt
 
-pub eight-shifts : (r : ℕ) → r < 32768 → register r 8 ≡ r % 128 * 256 + bitXor (r / 128) (r / 8) % 256
+pub eight-shifts : (r : ℕ) → r < 0x8000 → register r 8 ≡ r % 128 * 256 + bitXor (r / 128) (r / 8) % 256
 unfolding eight add
 eight-shifts r h = linear-same (λ r. register r 8) eight (register-sum 8) eight-add eight-low eight-high r h
 
@@ -89,9 +85,9 @@ eight-shifts r h = linear-same (λ r. register r 8) eight (register-sum 8) eight
 
 -- A^15 = A^4 + 1 for the shift A, and so for its squares: A^120 = A^32 + 1
 abbrev Recurs : ℕ → ℕ → Type 0
-Recurs m k = (r : ℕ) → r < 32768 → register r m ≡ add r (register r k)
+Recurs m k = (r : ℕ) → r < 0x8000 → register r m ≡ add r (register r k)
 
-register-lt : (r n : ℕ) → r < 32768 → register r n < 32768
+register-lt : (r n : ℕ) → r < 0x8000 → register r n < 0x8000
 unfolding register shifted
 register-lt r zero h = h
 register-lt r (suc n) h = omega arith
@@ -117,7 +113,7 @@ recurs-twice m k h r l =
     ∙ add-assoc r s (add s (register s k)) ∙ ap (add r) (add-cancel s (register s k) ∙ sym (register-add r k k))
 
 -- a scrambling byte is the sum of those fifteen and eleven before it
-pub byte-recurs : (r i : ℕ) → r < 32768 → scramblingByte r (i + 15) ≡ add (scramblingByte r i) (scramblingByte r (i + 4))
+pub byte-recurs : (r i : ℕ) → r < 0x8000 → scramblingByte r (i + 15) ≡ add (scramblingByte r i) (scramblingByte r (i + 4))
 unfolding scramblingByte
 byte-recurs r i h =
     let s : ℕ = register r (8 * i) in

@@ -7,6 +7,7 @@ use lib.Dec.{leb, ltb}
 use lib.ListN.{getD}
 use Rattle.lists.specs.Fill.{tabulate}
 use Rattle.field.specs.Field.{add}
+use Rattle.layout.specs.Lengths.{headSize, frameSize, edcPlace}
 
 -- table 3: the value to which the register is pre-set, by the pre-set number 0 to 15
 unfoldable pub presets : List ℕ
@@ -32,10 +33,10 @@ register r (suc n) = shifted (register r n)
 unfoldable pub scramblingByte : ℕ → ℕ → ℕ
 scramblingByte r i = register r (8 * i) % 256
 
--- byte q of a frame: bytes 12 to 2,059 are main data
+-- byte q of a frame: the bytes between the head and EDC, 12 to 2,059, are main data
 unfoldable pub scrambledAt : ℕ → List ℕ → ℕ → ℕ
-scrambledAt n f q = cond (leb 12 q && ltb q 2060) (add (getD f q 0) (scramblingByte (presetOf n) (q - 12))) (getD f q 0)
+scrambledAt n f q = cond (leb headSize q && ltb q edcPlace) (add (getD f q 0) (scramblingByte (presetOf n) (q - headSize))) (getD f q 0)
 
 -- the frame of the sector n with its main data bytes scrambled. Scrambled twice it is as it was (proofs/Scrambled)
 abbrev pub scrambled : ℕ → List ℕ → List ℕ
-scrambled n f = tabulate (scrambledAt n f) 2064
+scrambled n f = tabulate (scrambledAt n f) frameSize

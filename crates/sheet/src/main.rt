@@ -1,6 +1,9 @@
 // The bench sheet (document 01): a block's stream on standard input, one line on standard output.
 ghost use mathlib.Core.Path.{_≡_};
 ghost use lib.ListN.{length};
+ghost use Rattle.layout.specs.Lengths.{mainSize, blockSize};
+use layout::BLOCK_SIZE;
+use layout::MAIN_SIZE;
 use libc::STDIN_FILENO;
 use libc::STDOUT_FILENO;
 
@@ -11,16 +14,16 @@ fn stream_room() -> [u8; 77381]
     [0; 77381]
 }
 
-fn block_room() -> [u8; 37856]
-    ensures { λ r. ⌜ 37856 ≡ length r ⌝ }
+fn block_room() -> [u8; BLOCK_SIZE]
+    ensures { λ r. ⌜ blockSize ≡ length r ⌝ }
 {
-    [0; 37856]
+    [0; BLOCK_SIZE]
 }
 
-fn main_room() -> [u8; 32768]
-    ensures { λ r. ⌜ 32768 ≡ length r ⌝ }
+fn main_room() -> [u8; MAIN_SIZE]
+    ensures { λ r. ⌜ mainSize ≡ length r ⌝ }
 {
-    [0; 32768]
+    [0; MAIN_SIZE]
 }
 
 fn main() {
@@ -29,7 +32,7 @@ fn main() {
     let mut main = main_room();
     let mut text = [0u8; 128];
     let n = io::read_full(STDIN_FILENO, &mut stream);
-    let r = roundtrip::read_block(&stream[..n], &mut block, &mut main);
+    let r = blockreader::read_block(&stream[..n], &mut block, &mut main);
     let k = sheetline::sheet_line(r, &mut text);
     io::write_all(STDOUT_FILENO, &text[..k]);
 }

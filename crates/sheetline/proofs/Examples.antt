@@ -3,7 +3,7 @@
 use mathlib.Core.List.{[], _∷_}
 use mathlib.Core.Path.{_≡_, refl}
 use Rattle.repairer.specs.declared.Tallies.{Tallies}
-use Rattle.roundtrip.specs.declared.BlockRead.the-variants.{Block, FrameRefused, LengthRefused}
+use Rattle.blockreader.specs.declared.BlockRead.the-variants.{Block, FrameRefused, LengthRefused}
 use Rattle.sheetline.specs.Line.{sheetLine, lastDigits}
 
 abbrev pub untouched : Tallies

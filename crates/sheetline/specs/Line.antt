@@ -6,8 +6,8 @@ use Prim.Native.Nat.{ℕ, zero, suc, _+_, _/_, _%_}
 use lib.Dec.{ltb}
 use Rattle.repairer.specs.declared.Tally.{Tally}
 use Rattle.repairer.specs.declared.Tallies.{Tallies}
-use Rattle.roundtrip.specs.declared.BlockRead.{BlockRead}
-use Rattle.roundtrip.specs.declared.BlockRead.the-variants.{Block, FrameRefused, LengthRefused}
+use Rattle.blockreader.specs.declared.BlockRead.{BlockRead}
+use Rattle.blockreader.specs.declared.BlockRead.the-variants.{Block, FrameRefused, LengthRefused}
 
 -- a number in decimal without zeros in front: its last k digits, where it has more
 unfoldable pub lastDigits : ℕ → ℕ → List ℕ

@@ -2,25 +2,21 @@
 ghost use mathlib.Core.Path.{_≡_};
 ghost use Prim.Native.Nat.{_+_, _≤_};
 ghost use lib.ListN.{length};
-ghost use Rattle.sheetline.specs.Laying.{Laid};
+ghost use Rattle.sheetline.specs.Inner.{Text};
 ghost use Rattle.sheetline.specs.Line.{lastDigits, hexDigit, hexSix};
 
 pub(crate) fn put_text(out: &mut [u8], at: usize, text: &[u8]) -> usize
     requires { ⌜ at + length (now text) ≤ length (now out) ⌝ }
-    ensures { λ r. ⌜ Laid (now (out .entry)) at (now (text .entry)) (now (out .exit)) r ⌝ }
+    ensures { λ r. ⌜ Text (now (out .entry)) at (now (text .entry)) (now (out .exit)) r ⌝ }
 {
-    let mut i: usize = 0;
-    while i < text.len() {
-        out[at + i] = text[i];
-        i += 1;
-    }
-    at + i
+    bytes::put(out, at, text);
+    at + text.len()
 }
 
 // The last k digits of n; the digits before the last are laid first.
 pub(crate) fn put_digits(out: &mut [u8], at: usize, n: u32, k: usize) -> usize
     requires { ⌜ at + k ≤ length (now out) ⌝ }
-    ensures { λ r. ⌜ Laid (now (out .entry)) at (lastDigits k n) (now (out .exit)) r ⌝ }
+    ensures { λ r. ⌜ Text (now (out .entry)) at (lastDigits k n) (now (out .exit)) r ⌝ }
 {
     if k == 0 {
         return at;

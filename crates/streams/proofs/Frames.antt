@@ -9,12 +9,16 @@ use native.Mathlib.Omega.{arith}
 use lib.Dec.{T}
 use lib.ListN.{getD, take, drop}
 use lib.Seq.{take-take, drop-drop, take-nil}
-use Rattle.channel.specs.Block.{frameCodes, codeOf, frames, sectorItems, blockItems, closed, packed, permittedChoices, permittedStream}
+use Rattle.layout.specs.Sectors.{frameCodes, codeOf}
+use Rattle.channel.specs.Block.{frames, sectorItems, blockItems, closed, permittedChoices, permittedStream}
+use Rattle.bytes.specs.Halves.{packed}
 use Rattle.channel.specs.Channel.{Item, sync, byte, permitted, stream}
-use Rattle.levels.specs.declared.Run.{Run}
+use Rattle.levels.specs.declared.Running.{Running}
+use Rattle.layout.specs.Lengths.{sectorSize}
 use Rattle.streams.specs.Frames.{joined, framesOf, sectorOf, sectorsOf, closingOf, blockOf, choicesOf}
-use Rattle.streams.specs.Streams.{Stream, fresh, lay, frameItems, frameOf}
-use Rattle.streams.proofs.Laid.{Laid, laidBy, extended, laid-fresh, laid-lay, laid-join, frame-laid}
+use Rattle.streams.specs.Streams.{Stream, fresh, lay, frameItems, syncFrameOf}
+use Rattle.streams.specs.Inner.{extended, laidBy, Laid}
+use Rattle.streams.proofs.Laid.{laid-fresh, laid-lay, laid-join, frame-laid}
 
 drop-take : (m n : ℕ) (l : List ℕ) → drop m (take (m + n) l) ≡ take n (drop m l)
 drop-take zero n l = rw (zero-add n)
@@ -63,27 +67,27 @@ frames-again (suc m) n f bs =
     let e : suc (26 * n + f) ≡ 26 * n + suc f = omega arith in
     ap₂ (λ (x : ℕ) (y : List Item). sync x ∷ (map byte (take 91 bs) ++ y)) (code-again n f) (ap (λ (x : ℕ). frames x m (drop 91 bs)) e ∙ frames-again m n (suc f) (drop 91 bs))
 
-sectors-snoc : (n : ℕ) (bs : List ℕ) → frames 0 (26 * suc n) bs ≡ frames 0 (26 * n) bs ++ frames 0 26 (take 2366 (drop (2366 * n) bs))
+sectors-snoc : (n : ℕ) (bs : List ℕ) → frames 0 (26 * suc n) bs ≡ frames 0 (26 * n) bs ++ frames 0 26 (take sectorSize (drop (sectorSize * n) bs))
 sectors-snoc n bs =
     let e : 26 * suc n ≡ 26 * n + 26 = omega arith in
     let g : 0 + 26 * n ≡ 26 * n + 0 = omega arith in
-    let h : 91 * (26 * n) ≡ 2366 * n = omega arith in
+    let h : 91 * (26 * n) ≡ sectorSize * n = omega arith in
     ap (λ (x : ℕ). frames 0 x bs) e ∙ frames-more (26 * n) 0 26 bs
     ∙ ap (λ (x : List Item). frames 0 (26 * n) bs ++ x)
-    (ap₂ (λ (x y : ℕ). frames x 26 (drop y bs)) g h ∙ frames-again 26 n 0 (drop (2366 * n) bs) ∙ sym (frames-take 26 0 (drop (2366 * n) bs)))
+    (ap₂ (λ (x y : ℕ). frames x 26 (drop y bs)) g h ∙ frames-again 26 n 0 (drop (sectorSize * n) bs) ∙ sym (frames-take 26 0 (drop (sectorSize * n) bs)))
 
 -- PERMITTED: n frames of a sector
-pub frames-laid : (a : Run) (bs : List ℕ) (n : ℕ) → Laid a (frames 0 n bs) (framesOf a bs n)
+pub frames-laid : (a : Running) (bs : List ℕ) (n : ℕ) → Laid a (frames 0 n bs) (framesOf a bs n)
 unfolding framesOf
 frames-laid a bs zero = unfold frames in laid-fresh a
 frames-laid a bs (suc n) =
     let m = framesOf a bs n in
     let b = take 91 (drop (91 * n) bs) in
-    subst (λ (x : List Item). Laid a x (joined m (frameOf (m .run) (codeOf n) b))) (sym (frames-snoc n bs))
-    (laid-join a (frames 0 n bs) m (frameOf (m .run) (codeOf n) b) (codeOf n) (map byte b) (frames-laid a bs n) (frame-laid (m .run) (codeOf n) b))
+    subst (λ (x : List Item). Laid a x (joined m (syncFrameOf (m .running) (codeOf n) b))) (sym (frames-snoc n bs))
+    (laid-join a (frames 0 n bs) m (syncFrameOf (m .running) (codeOf n) b) (codeOf n) (map byte b) (frames-laid a bs n) (frame-laid (m .running) (codeOf n) b))
 
 -- a sector
-pub sector-laid : (r : Run) (bs : List ℕ) → Laid r (sectorItems bs) (sectorOf r bs)
+pub sector-laid : (r : Running) (bs : List ℕ) → Laid r (sectorItems bs) (sectorOf r bs)
 sector-laid r bs = frames-laid r bs 26
 
 sector-head : (bs : List ℕ) → frames 0 26 bs ≡ sync (codeOf 0) ∷ (map byte (take 91 bs) ++ frames 1 25 (drop 91 bs))
@@ -91,28 +95,28 @@ unfolding frames
 sector-head bs = refl
 
 -- n sectors
-pub sectors-laid : (r : Run) (bs : List ℕ) (n : ℕ) → Laid r (frames 0 (26 * n) bs) (sectorsOf r bs n)
+pub sectors-laid : (r : Running) (bs : List ℕ) (n : ℕ) → Laid r (frames 0 (26 * n) bs) (sectorsOf r bs n)
 unfolding sectorsOf
 sectors-laid r bs zero = unfold frames in laid-fresh r
 sectors-laid r bs (suc n) =
     let m = sectorsOf r bs n in
-    let b = take 2366 (drop (2366 * n) bs) in
-    let k = sectorOf (m .run) b in
+    let b = take sectorSize (drop (sectorSize * n) bs) in
+    let k = sectorOf (m .running) b in
     subst (λ (x : List Item). Laid r x (joined m k)) (sym (sectors-snoc n bs ∙ ap (λ (x : List Item). frames 0 (26 * n) bs ++ x) (sector-head b)))
     (laid-join r (frames 0 (26 * n) bs) m k (codeOf 0) (map byte (take 91 b) ++ frames 1 25 (drop 91 b)) (sectors-laid r bs n)
-    (subst (λ (x : List Item). Laid (m .run) x k) (sector-head b) (sector-laid (m .run) b)))
+    (subst (λ (x : List Item). Laid (m .running) x k) (sector-head b) (sector-laid (m .running) b)))
 
 -- the closing code
-pub closing-laid : (r : Run) → Laid r (sync 0 ∷ []) (closingOf r)
+pub closing-laid : (r : Running) → Laid r (sync 0 ∷ []) (closingOf r)
 closing-laid r = laid-lay r [] (fresh r) (sync 0) false (laid-fresh r) tt
 
 -- sixteen sectors and the closing code
-pub block-laid : (r : Run) (bs : List ℕ) → Laid r (blockItems bs) (blockOf r bs)
+pub block-laid : (r : Running) (bs : List ℕ) → Laid r (blockItems bs) (blockOf r bs)
 unfolding blockOf blockItems
-block-laid r bs = let m = sectorsOf r bs 16 in laid-join r (frames 0 416 bs) m (closingOf (m .run)) 0 [] (sectors-laid r bs 16) (closing-laid (m .run))
+block-laid r bs = let m = sectorsOf r bs 16 in laid-join r (frames 0 416 bs) m (closingOf (m .running)) 0 [] (sectors-laid r bs 16) (closing-laid (m .running))
 
 -- PERMITTED: the choices of the rule over a block that starts at State 1 are permitted, whatever the bytes, and what it lays is their permitted stream
-module _ (r : Run) (bs : List ℕ) (e : r .state ≡ 1) where
+module _ (r : Running) (bs : List ℕ) (e : r .state ≡ 1) where
   pub block-permitted : T (permittedChoices bs (choicesOf r bs))
   unfolding choicesOf blockOf lay
   block-permitted = subst (λ (s : ℕ). T (permitted s 0 (blockItems bs) (closed (choicesOf r bs)))) e (block-laid r bs .ok)

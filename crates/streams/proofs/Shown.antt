@@ -10,21 +10,13 @@ use borrow.Author.Tests.{ltb-true, leb-true, leb-false}
 use lib.Dec.{T, ltb}
 use lib.ListN.{drop}
 use Rattle.annexg.specs.Sync.{codeFor}
-use Rattle.channel.specs.Block.{packed}
+use Rattle.bytes.specs.Halves.{packed}
 use Rattle.channel.specs.Channel.{sync, byte, permitted}
 use Rattle.levels.specs.Level.{magnitude}
-use Rattle.levels.specs.declared.Run.{Run}
-use Rattle.streams.specs.Streams.{Stream, fresh, layAll, Two, oneLower, lower, opened, filled, frameItems, otherFirst, beyond, otherCode, changes, ended, frameOf, streamOf, isShown, bufferAfter}
-use Rattle.streams.proofs.Laid.{Laid, laidBy, all-by, rest, laid-halves, other-permitted, steps-laid, opened-laid}
-
--- one of the two is shown, and only one
-pub one-shown : (first : Bool) (t : Two) → isShown (not first) t ≡ not (isShown first t)
-one-shown true t = refl
-one-shown false t = twice (oneLower t)
-  where
-    twice : (b : Bool) → b ≡ not (not b)
-    twice true = refl
-    twice false = refl
+use Rattle.levels.specs.declared.Running.{Running}
+use Rattle.streams.specs.Streams.{Stream, fresh, layAll, Two, oneLower, lower, opened, filled, frameItems, otherFirst, beyond, otherCode, changes, ended, syncFrameOf, streamOf, isShown, bufferAfter}
+use Rattle.streams.specs.Inner.{laidBy, Laid}
+use Rattle.streams.proofs.Laid.{all-by, rest, laid-halves, other-permitted, steps-laid, opened-laid}
 
 -- the stream shown is the lower
 pub shown-lower : (first : Bool) (t : Two) → isShown first t ≡ true → streamOf first t ≡ lower t
@@ -36,24 +28,24 @@ shown-lower false t e = by (oneLower t) e
     by true e = absurd (subst T (sym e) tt)
     by false e = refl
 
-lower-lowest : (first : Bool) (t : Two) → magnitude (lower t .run .dsv) ≤ magnitude (streamOf first t .run .dsv)
+lower-lowest : (first : Bool) (t : Two) → magnitude (lower t .running .dsv) ≤ magnitude (streamOf first t .running .dsv)
 unfolding lower
 lower-lowest first t = by first (oneLower t) refl
   where
-    by : (first b : Bool) → oneLower t ≡ b → magnitude (cond b (t .one) (t .two) .run .dsv) ≤ magnitude (streamOf first t .run .dsv)
+    by : (first b : Bool) → oneLower t ≡ b → magnitude (cond b (t .one) (t .two) .running .dsv) ≤ magnitude (streamOf first t .running .dsv)
     by true true e = omega arith
-    by false true e = leb-true (magnitude (t .one .run .dsv)) (magnitude (t .two .run .dsv)) e
-    by true false e = omega (arith, leb-false (magnitude (t .one .run .dsv)) (magnitude (t .two .run .dsv)) e)
+    by false true e = leb-true (magnitude (t .one .running .dsv)) (magnitude (t .two .running .dsv)) e
+    by true false e = omega (arith, leb-false (magnitude (t .one .running .dsv)) (magnitude (t .two .running .dsv)) e)
     by false false e = omega arith
 
-module _ (r : Run) (n : ℕ) (bs : List ℕ) (m : Stream) where
-  ended-lower : magnitude (ended r n bs m .run .dsv) ≤ magnitude (m .run .dsv)
+module _ (r : Running) (n : ℕ) (bs : List ℕ) (m : Stream) where
+  ended-lower : magnitude (ended r n bs m .running .dsv) ≤ magnitude (m .running .dsv)
   unfolding ended changes
-  ended-lower = by (beyond (m .run .dsv)) (ltb (magnitude (otherCode r n bs m .run .dsv)) (magnitude (m .run .dsv))) refl
+  ended-lower = by (beyond (m .running .dsv)) (ltb (magnitude (otherCode r n bs m .running .dsv)) (magnitude (m .running .dsv))) refl
     where
-      by : (x y : Bool) → ltb (magnitude (otherCode r n bs m .run .dsv)) (magnitude (m .run .dsv)) ≡ y
-          → magnitude (cond (x && y) (otherCode r n bs m) m .run .dsv) ≤ magnitude (m .run .dsv)
-      by true true e = omega (arith, ltb-true (magnitude (otherCode r n bs m .run .dsv)) (magnitude (m .run .dsv)) e)
+      by : (x y : Bool) → ltb (magnitude (otherCode r n bs m .running .dsv)) (magnitude (m .running .dsv)) ≡ y
+          → magnitude (cond (x && y) (otherCode r n bs m) m .running .dsv) ≤ magnitude (m .running .dsv)
+      by true true e = omega (arith, ltb-true (magnitude (otherCode r n bs m .running .dsv)) (magnitude (m .running .dsv)) e)
       by true false e = omega arith
       by false y e = omega arith
 
@@ -87,7 +79,7 @@ unfolding packed
 drop-packed [] = refl
 drop-packed (h ∷ hs) = refl
 
-module _ (r : Run) (n : ℕ) (bs : List ℕ) where
+module _ (r : Running) (n : ℕ) (bs : List ℕ) where
   -- each of the two streams takes permitted choices
   pub stream-laid : (first : Bool) → Laid r (frameItems n bs) (streamOf first (filled r n bs))
   stream-laid true = steps-laid r (sync n ∷ []) (opened r n) bs (opened-laid r n) .first
@@ -99,17 +91,17 @@ module _ (r : Run) (n : ℕ) (bs : List ℕ) where
   other-keeps first e = let m = streamOf first (filled r n bs) in ap (λ (b : Bool). packed (cond b (ended r n bs m) m .halves)) e
 
   -- the buffer shown holds the stream that the rule shows
-  pub shown-holds : (first : Bool) → isShown first (filled r n bs) ≡ true → bufferAfter first r n bs ≡ packed (frameOf r n bs .halves)
-  unfolding bufferAfter frameOf
+  pub shown-holds : (first : Bool) → isShown first (filled r n bs) ≡ true → bufferAfter first r n bs ≡ packed (syncFrameOf r n bs .halves)
+  unfolding bufferAfter syncFrameOf
   shown-holds first e =
       let m = streamOf first (filled r n bs) in
       ap (λ (b : Bool). packed (cond b (ended r n bs m) m .halves)) e ∙ ap (λ (k : Stream). packed (ended r n bs k .halves)) (shown-lower first (filled r n bs) e)
 
   -- of the two buffers the one of the lower stream is the one to select
-  pub selected-shown : cond (oneLower (filled r n bs)) (bufferAfter true r n bs) (bufferAfter false r n bs) ≡ packed (frameOf r n bs .halves)
+  pub selected-shown : cond (oneLower (filled r n bs)) (bufferAfter true r n bs) (bufferAfter false r n bs) ≡ packed (syncFrameOf r n bs .halves)
   selected-shown = by (oneLower (filled r n bs)) refl
     where
-      by : (b : Bool) → oneLower (filled r n bs) ≡ b → cond b (bufferAfter true r n bs) (bufferAfter false r n bs) ≡ packed (frameOf r n bs .halves)
+      by : (b : Bool) → oneLower (filled r n bs) ≡ b → cond b (bufferAfter true r n bs) (bufferAfter false r n bs) ≡ packed (syncFrameOf r n bs .halves)
       by true e = shown-holds true e
       by false e = shown-holds false (ap not e)
 
@@ -126,6 +118,6 @@ module _ (r : Run) (n : ℕ) (bs : List ℕ) where
       by false = refl
 
   -- the absolute DSV of the stream shown is at most that of either stream
-  pub shown-lowest : (first : Bool) → magnitude (frameOf r n bs .run .dsv) ≤ magnitude (streamOf first (filled r n bs) .run .dsv)
-  unfolding frameOf
+  pub shown-lowest : (first : Bool) → magnitude (syncFrameOf r n bs .running .dsv) ≤ magnitude (streamOf first (filled r n bs) .running .dsv)
+  unfolding syncFrameOf
   shown-lowest first = omega (arith, ended-lower r n bs (lower (filled r n bs)), lower-lowest first (filled r n bs))

@@ -4,41 +4,42 @@ use mathlib.Core.Bool.{Bool, false}
 use mathlib.Core.List.{List, _++_}
 use Prim.Native.Nat.{ℕ, zero, suc, _*_}
 use lib.ListN.{take, drop}
-use Rattle.channel.specs.Block.{codeOf}
+use Rattle.layout.specs.Sectors.{codeOf}
 use Rattle.channel.specs.Channel.{sync}
-use Rattle.levels.specs.declared.Run.{Run}
-use Rattle.streams.specs.Streams.{Stream, fresh, lay, frameOf}
+use Rattle.levels.specs.declared.Running.{Running}
+use Rattle.layout.specs.Lengths.{sectorSize, frameBytes, sectorFrames}
+use Rattle.streams.specs.Streams.{Stream, fresh, lay, syncFrameOf}
 
 -- a stream after another
 abbrev pub joined : Stream → Stream → Stream
-joined m k = record { choices = m .choices ++ k .choices; halves = m .halves ++ k .halves; last = k .last; run = k .run }
+joined m k = record { choices = m .choices ++ k .choices; halves = m .halves ++ k .halves; last = k .last; running = k .running }
 
 -- the first n frames of a sector of the bytes bs, 91 bytes a frame
-unfoldable pub framesOf : Run → List ℕ → ℕ → Stream
+unfoldable pub framesOf : Running → List ℕ → ℕ → Stream
 framesOf r bs zero = fresh r
 framesOf r bs (suc n) =
     let m = framesOf r bs n in
-    joined m (frameOf (m .run) (codeOf n) (take 91 (drop (91 * n) bs)))
+    joined m (syncFrameOf (m .running) (codeOf n) (take frameBytes (drop (frameBytes * n) bs)))
 
 -- a sector is 26 frames
-abbrev pub sectorOf : Run → List ℕ → Stream
-sectorOf r bs = framesOf r bs 26
+abbrev pub sectorOf : Running → List ℕ → Stream
+sectorOf r bs = framesOf r bs sectorFrames
 
 -- the first n sectors of a block of the bytes bs, 2,366 bytes a sector
-unfoldable pub sectorsOf : Run → List ℕ → ℕ → Stream
+unfoldable pub sectorsOf : Running → List ℕ → ℕ → Stream
 sectorsOf r bs zero = fresh r
 sectorsOf r bs (suc n) =
     let m = sectorsOf r bs n in
-    joined m (sectorOf (m .run) (take 2366 (drop (2366 * n) bs)))
+    joined m (sectorOf (m .running) (take sectorSize (drop (sectorSize * n) bs)))
 
 -- the closing code: the Primary SY0 of the class that the State selects
-abbrev pub closingOf : Run → Stream
+abbrev pub closingOf : Running → Stream
 closingOf r = lay (fresh r) (sync 0) false
 
 -- the sixteen sectors of a block and the closing code
-unfoldable pub blockOf : Run → List ℕ → Stream
-blockOf r bs = let m = sectorsOf r bs 16 in joined m (closingOf (m .run))
+unfoldable pub blockOf : Running → List ℕ → Stream
+blockOf r bs = let m = sectorsOf r bs 16 in joined m (closingOf (m .running))
 
 -- the choices that the rule takes over the sixteen sectors
-unfoldable pub choicesOf : Run → List ℕ → List Bool
+unfoldable pub choicesOf : Running → List ℕ → List Bool
 choicesOf r bs = sectorsOf r bs 16 .choices

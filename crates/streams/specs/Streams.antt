@@ -1,5 +1,5 @@
 -- The choice between two streams over a Sync Frame (clause 22 of ECMA-268; document 01, "The choice between two streams").
--- Two streams are laid side by side. Choices, half words and running record are carried along, so that a copy takes them all. `frameOf` is the stream shown,
+-- Two streams are laid side by side. Choices, half words and running record are carried along, so that a copy takes them all. `syncFrameOf` is the stream shown,
 -- `bufferAfter` what each of the two buffers lent holds after the frame.
 -- Assumes nothing.
 use mathlib.Core.Bool.{Bool, true, false, not, cond, _&&_, _||_}
@@ -7,11 +7,11 @@ use mathlib.Core.List.{List, [], _∷_, _++_, map}
 use Prim.Native.Nat.{ℕ, _+_}
 use lib.Dec.{eqb, leb, ltb}
 use Rattle.annexg.specs.Read.{wordOf}
-use Rattle.annexg.specs.Runs.{inside}
-use Rattle.channel.specs.Block.{packed}
-use Rattle.channel.specs.Channel.{Item, sync, byte, halvesFor, nextFor, lastFor, joinRun, swaps}
-use Rattle.levels.specs.Level.{zeroAt, magnitude, runAfter}
-use Rattle.levels.specs.declared.Run.{Run}
+use Rattle.annexg.specs.ZeroRuns.{inside}
+use Rattle.bytes.specs.Halves.{packed}
+use Rattle.channel.specs.Channel.{Item, sync, byte, halvesFor, nextFor, lastFor, joinZeros, swaps}
+use Rattle.levels.specs.Level.{zeroAt, magnitude, runningAfter}
+use Rattle.levels.specs.declared.Running.{Running}
 
 -- ---- one stream
 
@@ -20,21 +20,21 @@ pub record Stream : Type 0 where
   pub choices : List Bool
   pub halves : List ℕ
   pub last : ℕ
-  pub run : Run
+  pub running : Running
 
 -- nothing laid yet
-abbrev pub fresh : Run → Stream
-fresh r = record { choices = []; halves = []; last = 0; run = r }
+abbrev pub fresh : Running → Stream
+fresh r = record { choices = []; halves = []; last = 0; running = r }
 
 -- an item laid at the end of a stream, by a choice, in the State that is prescribed there
 unfoldable pub lay : Stream → Item → Bool → Stream
 lay m i c =
-    let s = m .run .state in
+    let s = m .running .state in
     record {
       choices = m .choices ++ (c ∷ []);
       halves = m .halves ++ halvesFor s i c;
       last = lastFor s i c;
-      run = runAfter (m .run) (nextFor s i c) (halvesFor s i c);
+      running = runningAfter (m .running) (nextFor s i c) (halvesFor s i c);
     }
 
 -- items laid one after the other, a choice each
@@ -51,23 +51,23 @@ pub record Two : Type 0 where
 
 -- Stream 1 is the lower: its absolute DSV is lower, or both are equal
 abbrev pub oneLower : Two → Bool
-oneLower t = leb (magnitude (t .one .run .dsv)) (magnitude (t .two .run .dsv))
+oneLower t = leb (magnitude (t .one .running .dsv)) (magnitude (t .two .running .dsv))
 
 unfoldable pub lower : Two → Stream
 lower t = cond (oneLower t) (t .one) (t .two)
 
 -- a frame opens with the Primary code in Stream 1 and the Secondary in Stream 2
-unfoldable pub opened : Run → ℕ → Two
+unfoldable pub opened : Running → ℕ → Two
 opened r n = record { one = lay (fresh r) (sync n) false; two = lay (fresh r) (sync n) true }
 
--- a swap is possible for byte b in State s after the half word l: b is 88 to 255, s is 1 or 4, and the State 1 word and the State 4 word both have a run
+-- a swap is possible for byte b in State s after the half word l: b is 88 to 255, s is 1 or 4, and the State 1 word and the State 4 word both have a zero run
 -- of 2 to 10 across the join
 unfoldable pub swapPossible : ℕ → ℕ → ℕ → Bool
-swapPossible s l b = leb 88 b && (swaps s && (inside 2 10 (joinRun l (wordOf 0 b 0)) && inside 2 10 (joinRun l (wordOf 0 b 3))))
+swapPossible s l b = leb 88 b && (swaps s && (inside 2 10 (joinZeros l (wordOf 0 b 0)) && inside 2 10 (joinZeros l (wordOf 0 b 3))))
 
 -- the same in a stream, by its own State and its own last half word
 abbrev pub swapIn : Stream → ℕ → Bool
-swapIn m b = swapPossible (m .run .state) (m .last) b
+swapIn m b = swapPossible (m .running .state) (m .last) b
 
 -- the swap is made: it is possible in both streams; or in one only, and that one is the lower
 unfoldable pub swapMade : Two → ℕ → Bool
@@ -87,14 +87,14 @@ kept t b = record { one = lay (t .one) (byte b) false; two = lay (t .two) (byte 
 unfoldable pub step : Two → ℕ → Two
 step t b =
     let m = lower t in
-    cond (ltb b 88) (copied m b false true) (cond (swapMade t b) (copied m b (eqb (m .run .state) 4) (eqb (m .run .state) 1)) (kept t b))
+    cond (ltb b 88) (copied m b false true) (cond (swapMade t b) (copied m b (eqb (m .running .state) 4) (eqb (m .running .state) 1)) (kept t b))
 
 unfoldable pub steps : Two → List ℕ → Two
 steps t [] = t
 steps t (b ∷ bs) = steps (step t b) bs
 
 -- both streams over the bytes bs of a frame with SYNC Code SYn, from the running record r
-abbrev pub filled : Run → ℕ → List ℕ → Two
+abbrev pub filled : Running → ℕ → List ℕ → Two
 filled r n bs = steps (opened r n) bs
 
 -- ---- the frame's end
@@ -107,7 +107,7 @@ otherFirst [] = []
 otherFirst (c ∷ cs) = not c ∷ cs
 
 -- the same words after the other SYNC Code of the class, counted anew from the frame's start
-unfoldable pub otherCode : Run → ℕ → List ℕ → Stream → Stream
+unfoldable pub otherCode : Running → ℕ → List ℕ → Stream → Stream
 otherCode r n bs m = layAll (fresh r) (frameItems n bs) (otherFirst (m .choices))
 
 -- the DSV is over 63 or under −64
@@ -115,15 +115,15 @@ abbrev pub beyond : ℕ → Bool
 beyond d = ltb (zeroAt + 63) d || ltb (d + 64) zeroAt
 
 -- beyond these the other code is tried, and kept only if the absolute DSV gets smaller
-unfoldable pub changes : Run → ℕ → List ℕ → Stream → Bool
-changes r n bs m = beyond (m .run .dsv) && ltb (magnitude (otherCode r n bs m .run .dsv)) (magnitude (m .run .dsv))
+unfoldable pub changes : Running → ℕ → List ℕ → Stream → Bool
+changes r n bs m = beyond (m .running .dsv) && ltb (magnitude (otherCode r n bs m .running .dsv)) (magnitude (m .running .dsv))
 
-unfoldable pub ended : Run → ℕ → List ℕ → Stream → Stream
+unfoldable pub ended : Running → ℕ → List ℕ → Stream → Stream
 ended r n bs m = cond (changes r n bs m) (otherCode r n bs m) m
 
 -- the stream shown for a frame with SYNC Code SYn and the bytes bs, from the running record r: the lower at the frame's end
-unfoldable pub frameOf : Run → ℕ → List ℕ → Stream
-frameOf r n bs = ended r n bs (lower (filled r n bs))
+unfoldable pub syncFrameOf : Running → ℕ → List ℕ → Stream
+syncFrameOf r n bs = ended r n bs (lower (filled r n bs))
 
 -- ---- the two buffers lent, for Stream 1 (`true`) and for Stream 2 (`false`)
 
@@ -135,7 +135,7 @@ abbrev pub isShown : Bool → Two → Bool
 isShown first t = cond first (oneLower t) (not (oneLower t))
 
 -- what a buffer holds after the frame. A change of the SYNC Code is made in the buffer shown; the other buffer keeps its own stream
-unfoldable pub bufferAfter : Bool → Run → ℕ → List ℕ → List ℕ
+unfoldable pub bufferAfter : Bool → Running → ℕ → List ℕ → List ℕ
 bufferAfter first r n bs =
     let m = streamOf first (filled r n bs) in
     packed (cond (isShown first (filled r n bs)) (ended r n bs m) m .halves)

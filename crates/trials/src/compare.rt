@@ -2,6 +2,9 @@
 ghost use Prim.Native.Nat.{_≤_};
 ghost use lib.ListN.{length};
 use annexg::Reading;
+use layout::BLOCK_SIZE;
+use layout::FRAME_BYTES;
+use layout::FRAME_HALVES;
 
 // 1 where the bytes at i differ, 0 where they agree or one word has ended.
 fn differs_at(a: &[u8], b: &[u8], i: usize) -> u64
@@ -28,34 +31,27 @@ pub(crate) fn differing(a: &[u8], b: &[u8]) -> u64
     n
 }
 
-fn wide(b: u8) -> u16
-    ensures { λ r. ⌜ r ≤ 255 ⌝ }
+// Half word k of a stream, or `after` past its end.
+fn half_or(stream: &[u8], k: usize, after: u16) -> u16
+    requires { ⌜ k ≤ 40001 ⌝ }
 {
-    b as u16
-}
-
-// The half word at a byte of a stream, or `after` past its end.
-fn half_at(s: &[u8], at: usize, after: u16) -> u16 {
-    if s.len() < 2 {
+    if stream.len() < 2 * k + 2 {
         return after;
     }
-    if s.len() - 2 < at {
-        return after;
-    }
-    wide(s[at]) * 256 + wide(s[at + 1])
+    bytes::half_at(stream, k)
 }
 
-// 1 where the word at byte `at` of a stream is read as b.
-fn is_read(s: &[u8], at: usize, after: u16, b: u8) -> u64
-    requires { ⌜ at ≤ 80000 ⌝ }
+// 1 where half word k of a stream is read as a byte.
+fn is_read(stream: &[u8], k: usize, after: u16, byte: u8) -> u64
+    requires { ⌜ k ≤ 40000 ⌝ }
     ensures { λ r. ⌜ r ≤ 1 ⌝ }
 {
-    let word = half_at(s, at, after);
-    let following = half_at(s, at + 2, after);
-    let r = annexg::read_word(word, following);
-    match r {
-        Reading::Byte(c) => {
-            if c == b {
+    let word = half_or(stream, k, after);
+    let following = half_or(stream, k + 1, after);
+    let reading = annexg::read_word(word, following);
+    match reading {
+        Reading::Byte(b) => {
+            if b == byte {
                 return 1;
             }
             0
@@ -65,16 +61,16 @@ fn is_read(s: &[u8], at: usize, after: u16, b: u8) -> u64
 }
 
 // How many bytes of a block or a sector are read back from its stream, each at its place: 91 Code Words after each SYNC Code.
-pub(crate) fn read_back(s: &[u8], bytes: &[u8], after: u16) -> u64
+pub(crate) fn read_back(stream: &[u8], bytes: &[u8], after: u16) -> u64
     ensures { λ r. ⌜ r ≤ length (now (bytes .entry)) ⌝ }
 {
-    if 37856 < bytes.len() {
+    if BLOCK_SIZE < bytes.len() {
         return 0;
     }
     let mut n: u64 = 0;
     for i in 0..bytes.len() {
-        let at = 2 * (i / 91 * 93 + 2 + i % 91);
-        n += is_read(s, at, after, bytes[i]);
+        let k = i / FRAME_BYTES * FRAME_HALVES + 2 + i % FRAME_BYTES;
+        n += is_read(stream, k, after, bytes[i]);
     }
     n
 }

@@ -5,7 +5,18 @@ mod signed;
 
 ghost use mathlib.Core.Path.{_≡_};
 ghost use lib.ListN.{length};
+ghost use Rattle.layout.specs.Lengths.{mainSize, blockSize, streamSize};
 use codes::Outcome;
+use layout::BLOCK_SIZE;
+use layout::CLOSING_SIZE;
+use layout::LAST_FIRST;
+use layout::MAIN_SIZE;
+use layout::ROW_SIZE;
+use layout::SECTOR_COUNT;
+use layout::SECTOR_SIZE;
+use layout::SECTOR_STREAM;
+use layout::SECTORS_STREAM;
+use layout::STREAM_SIZE;
 use libc::STDOUT_FILENO;
 use reedsolomon::Row;
 use writer::Answer;
@@ -86,10 +97,10 @@ fn print_buffer(after: &[u8], before: &[u8]) {
 
 // ---- buffers. What they hold at first matters only where a refusal is to leave it. The contracts give the length, which lending an array asks for
 
-fn main_buffer() -> [u8; 32768]
-    ensures { λ r. ⌜ 32768 ≡ length r ⌝ }
+fn main_buffer() -> [u8; MAIN_SIZE]
+    ensures { λ r. ⌜ mainSize ≡ length r ⌝ }
 {
-    [0; 32768]
+    [0; MAIN_SIZE]
 }
 
 fn longer_main() -> [u8; 32769]
@@ -98,10 +109,10 @@ fn longer_main() -> [u8; 32769]
     [0; 32769]
 }
 
-fn block_buffer() -> [u8; 37856]
-    ensures { λ r. ⌜ 37856 ≡ length r ⌝ }
+fn block_buffer() -> [u8; BLOCK_SIZE]
+    ensures { λ r. ⌜ blockSize ≡ length r ⌝ }
 {
-    [165; 37856]
+    [165; BLOCK_SIZE]
 }
 
 fn longer_block() -> [u8; 37857]
@@ -110,10 +121,10 @@ fn longer_block() -> [u8; 37857]
     [165; 37857]
 }
 
-fn stream_buffer() -> [u8; 77380]
-    ensures { λ r. ⌜ 77380 ≡ length r ⌝ }
+fn stream_buffer() -> [u8; STREAM_SIZE]
+    ensures { λ r. ⌜ streamSize ≡ length r ⌝ }
 {
-    [0; 77380]
+    [0; STREAM_SIZE]
 }
 
 // ---- trial 13: five wrong bytes in a row, repaired; six, only as the rule says
@@ -131,9 +142,9 @@ fn trial13() {
 }
 
 fn row_case(fd: i32) {
-    let mut sent = [0u8; 182];
-    let mut bytes = [0u8; 182];
-    let mut due = [0u8; 182];
+    let mut sent = [0u8; ROW_SIZE];
+    let mut bytes = [0u8; ROW_SIZE];
+    let mut due = [0u8; ROW_SIZE];
     io::read_full(fd, &mut sent);
     io::read_full(fd, &mut bytes);
     io::read_full(fd, &mut due);
@@ -181,7 +192,7 @@ fn block_case(main_path: &[u8], block_path: &[u8], first: u32, info: u8) {
 
 // The number of the first sector: 16,777,200 passes; 16,777,216 and 8 get 2.
 fn trial15() {
-    number_case(16777200);
+    number_case(LAST_FIRST);
     number_case(16777216);
     number_case(8);
 }
@@ -223,16 +234,16 @@ fn information_case(info: u8) {
 
 // Buffers of other lengths, with whatever else is wrong: the lowest number.
 fn lengths() {
-    length_case(32767, 37856, 0, 0);
-    length_case(32769, 37856, 0, 0);
-    length_case(0, 37856, 0, 0);
-    length_case(32768, 37855, 0, 0);
-    length_case(32768, 37857, 0, 0);
-    length_case(32768, 0, 0, 0);
-    length_case(32767, 37856, 8, 0xFF);
-    length_case(32768, 37856, 8, 0xFF);
-    length_case(32768, 37856, 16, 0xFF);
-    length_case(32768, 37856, 16, 0x2D);
+    length_case(32767, BLOCK_SIZE, 0, 0);
+    length_case(32769, BLOCK_SIZE, 0, 0);
+    length_case(0, BLOCK_SIZE, 0, 0);
+    length_case(MAIN_SIZE, 37855, 0, 0);
+    length_case(MAIN_SIZE, 37857, 0, 0);
+    length_case(MAIN_SIZE, 0, 0, 0);
+    length_case(32767, BLOCK_SIZE, 8, 0xFF);
+    length_case(MAIN_SIZE, BLOCK_SIZE, 8, 0xFF);
+    length_case(MAIN_SIZE, BLOCK_SIZE, 16, 0xFF);
+    length_case(MAIN_SIZE, BLOCK_SIZE, 16, 0x2D);
 }
 
 fn length_case(n: usize, m: usize, first: u32, info: u8) {
@@ -280,10 +291,10 @@ fn block_stream(stream_path: &[u8], block_path: &[u8]) {
 }
 
 fn print_reading(stream: &[u8], bytes: &[u8], after: u16) {
-    if runs::runs_ok(stream) {
-        print(b": runs hold");
+    if zeroruns::zero_runs_hold(stream) {
+        print(b": zero runs hold");
     } else {
-        print(b": RUNS DO NOT HOLD");
+        print(b": ZERO RUNS DO NOT HOLD");
     }
     say(b", ", compare::read_back(stream, bytes, after));
     print(b" bytes read back\n");
@@ -294,7 +305,7 @@ fn print_reading(stream: &[u8], bytes: &[u8], after: u16) {
 fn answer_number(a: Answer) -> u64 {
     match a {
         Answer::Done => 0,
-        Answer::WrongLength => 1,
+        Answer::LengthRefused => 1,
         Answer::RunEnded => 7,
         Answer::RunUnfinished => 8,
         Answer::BadRecord => 9,
@@ -344,7 +355,7 @@ fn written_block(block_path: &[u8], stream_path: &[u8]) {
 
 fn write_stream(block: &[u8], out: &mut [u8]) {
     let mut w = writer::new();
-    for k in 0..16usize {
+    for k in 0..SECTOR_COUNT {
         w = next_sector(w, k, block, out);
     }
     close(w, out);
@@ -352,19 +363,19 @@ fn write_stream(block: &[u8], out: &mut [u8]) {
 
 // Sector k of a block.
 fn next_sector(w: Record, k: usize, block: &[u8], out: &mut [u8]) -> Record {
-    if 15 < k {
+    if SECTOR_COUNT <= k {
         return w;
     }
-    if block.len() != 37856 {
+    if block.len() != BLOCK_SIZE {
         return w;
     }
-    if out.len() != 77380 {
+    if out.len() != STREAM_SIZE {
         return w;
     }
-    let from = 2366 * k;
-    let till = from + 2366;
-    let at = 4836 * k;
-    let end = at + 4836;
+    let from = SECTOR_SIZE * k;
+    let till = from + SECTOR_SIZE;
+    let at = SECTOR_STREAM * k;
+    let end = at + SECTOR_STREAM;
     let s = writer::write_sector(w, &block[from..till], &mut out[at..end]);
     let next = s.next;
     print_sector(k, next);
@@ -383,10 +394,10 @@ fn print_sector(k: usize, w: Record) {
 }
 
 fn close(w: Record, out: &mut [u8]) {
-    if out.len() != 77380 {
+    if out.len() != STREAM_SIZE {
         return;
     }
-    let s = writer::close(w, &mut out[77376..77380]);
+    let s = writer::close(w, &mut out[SECTORS_STREAM..STREAM_SIZE]);
     print(b"closed   ");
     print_record(s.next);
     print(b"\n");
@@ -500,9 +511,9 @@ fn trial14_equal() {
 }
 
 fn sector_case(sector_path: &[u8], stream_path: &[u8], w: Record) {
-    let mut bytes = [0u8; 2366];
-    let mut due = [0u8; 4836];
-    let mut out = [0u8; 4836];
+    let mut bytes = [0u8; SECTOR_SIZE];
+    let mut due = [0u8; SECTOR_STREAM];
+    let mut out = [0u8; SECTOR_STREAM];
     load(sector_path, &mut bytes);
     load(stream_path, &mut due);
     let s = writer::write_sector(w, &bytes, &mut out);
@@ -518,7 +529,7 @@ fn sector_case(sector_path: &[u8], stream_path: &[u8], w: Record) {
 }
 
 // The half word after a sector is of the class that the State prescribes.
-fn sector_reading(stream: &[u8; 4836], bytes: &[u8; 2366], state: u8) {
+fn sector_reading(stream: &[u8; SECTOR_STREAM], bytes: &[u8; SECTOR_SIZE], state: u8) {
     if 2 < state {
         print_reading(stream, bytes, 0x8000);
     } else {
@@ -546,9 +557,9 @@ fn refused_records() {
 }
 
 fn record_case(w: Record) {
-    let bytes = [0u8; 2366];
-    let mut out = [165u8; 4836];
-    let mut four = [165u8; 4];
+    let bytes = [0u8; SECTOR_SIZE];
+    let mut out = [165u8; SECTOR_STREAM];
+    let mut four = [165u8; CLOSING_SIZE];
     print(b"record");
     print_sectors(w);
     if w.closed {

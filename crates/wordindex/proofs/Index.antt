@@ -14,14 +14,15 @@ use lib.Seq.{getD-set-same, getD-set-other}
 use borrow.Author.Tests.{eq-eqb}
 use Rattle.lists.specs.Test.{every}
 use Rattle.lists.proofs.Test.{and-left, and-right, truth, truth-of, every-at}
-use Rattle.annexg.specs.Read.{tableOf, agrees, fitsOf, readFrom, readWord, bothZero, StandsFor}
+use Rattle.annexg.specs.Read.{tableOf, agrees, fitsOf, readWord, bothZero, StandsFor}
+use Rattle.annexg.specs.Inner.{readFrom}
 use Rattle.annexg.specs.Tables.{mainTable, subTable}
 use Rattle.annexg.specs.declared.Reading.{Reading}
 use Rattle.annexg.specs.declared.Reading.the-variants.{Byte, Unknown}
 use Rattle.annexg.proofs.Search.{each-table, in-table, length-main, length-sub}
 use Rattle.annexg.proofs.Unique.{Tree, leaf, put, get, fit-from-given, unknown-from}
 use Rattle.annexg.proofs.Stands.{read-stands}
-use Rattle.wordindex.specs.Index.{placeOf, slotOf, entryNumber, tableNo, entryNo, putOne, putEntry, putFirst, putAll, wordIndex}
+use Rattle.wordindex.specs.Inner.{placeOf, slotOf, entryNumber, tableNo, entryNo, putOne, putEntry, putFirst, putAll, wordIndex}
 
 -- ---- the slots
 

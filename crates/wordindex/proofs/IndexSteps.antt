@@ -7,7 +7,7 @@ use Prim.Native.Nat.{ℕ, _+_, _/_, _%_}
 use native.Mathlib.Numerals.{add-one}
 use lib.ListN.{length, getD, set}
 use Rattle.annexg.specs.Read.{tableOf, agrees}
-use Rattle.wordindex.specs.Index.{slotOf, entryNumber, putOne, putEntry, putFirst, putAll}
+use Rattle.wordindex.specs.Inner.{slotOf, entryNumber, putOne, putEntry, putFirst, putAll}
 
 module _ (z : Bool) (n e : ℕ) (xs : List ℕ) where
   pub slot-taken : (i : ℕ) → agrees (e % 16) z ≡ true → i ≡ slotOf (e / 16) z → set xs i n ≡ putOne z n e xs

@@ -4,67 +4,85 @@
 ghost use mathlib.Core.Path.{_≡_};
 ghost use Prim.Native.Nat.{_<_};
 ghost use Rattle.annexg.specs.Read.{tableOf, readWord, readingNumber};
-ghost use Rattle.wordindex.specs.Index.{slotOf, putOne, putEntry, putAll, wordIndex};
+ghost use Rattle.wordindex.specs.Inner.{slotOf, putOne, putEntry, putAll, wordIndex};
 
 // The slot of a word: of two neighbours the second is for words before bits 15 and 3 that are both ZERO.
-fn slot_of(w: u32, z: bool) -> usize
-    requires { ⌜ w < 65536 ⌝ }
-    ensures { λ r. ⌜ (r ≡ slotOf w z) × (r < 8192) ⌝ }
+fn slot_of(word: u32, zero: bool) -> usize
+    requires { ⌜ word < 65536 ⌝ }
+    ensures { λ r. ⌜ r ≡ slotOf word zero ⌝ }
+    ensures { λ r. ⌜ r < 8192 ⌝ }
 {
-    ((w * 2747 / 16) % 4096) as usize * 2 + annexg::digit(z)
+    ((word * 2747 / 16) % 4096) as usize * 2 + annexg::digit(zero)
 }
 
-// Entry e takes the slot of its word where its next State agrees: the slot holds its number n.
-fn put_one(z: bool, n: u32, e: u32, x: &mut [u32; 8192])
-    requires { ⌜ e < 1048576 ⌝ }
-    ensures { λ r. ⌜ now (x .exit) ≡ putOne z n e (now (x .entry)) ⌝ }
+// An entry takes the slot of its word where its next State agrees: the slot holds its number.
+fn put_one(zero: bool, number: u32, entry: u32, index: &mut [u32; 8192])
+    requires { ⌜ entry < 1048576 ⌝ }
+    ensures { λ r. ⌜ now (index .exit) ≡ putOne zero number entry (now (index .entry)) ⌝ }
 {
-    if annexg::agrees_with(e % 16, z) {
-        let at = slot_of(e / 16, z);
-        x[at] = n;
+    if annexg::agrees_with(entry % 16, zero) {
+        let at = slot_of(entry / 16, zero);
+        index[at] = number;
     }
 }
 
-fn put_entry(n: u32, e: u32, x: &mut [u32; 8192])
-    requires { ⌜ e < 1048576 ⌝ }
-    ensures { λ r. ⌜ now (x .exit) ≡ putEntry n e (now (x .entry)) ⌝ }
+fn put_entry(number: u32, entry: u32, index: &mut [u32; 8192])
+    requires { ⌜ entry < 1048576 ⌝ }
+    ensures { λ r. ⌜ now (index .exit) ≡ putEntry number entry (now (index .entry)) ⌝ }
 {
-    put_one(false, n, e, x);
-    put_one(true, n, e, x);
+    put_one(false, number, entry, index);
+    put_one(true, number, entry, index);
 }
 
-// The entries of table t; the main table's have the numbers 0 to 1,023, the substitution table's 1,024 to 1,375.
-fn put_table(t: u32, es: &[u32], x: &mut [u32; 8192])
-    requires { ⌜ (t < 2) × (now es ≡ tableOf t) ⌝ }
-    ensures { λ r. ⌜ now (x .exit) ≡ putAll t (now (x .entry)) ⌝ }
+// The entries of a table; the main table's have the numbers 0 to 1,023, the substitution table's 1,024 to 1,375.
+fn put_table(table: u32, entries: &[u32], index: &mut [u32; 8192])
+    requires { ⌜ table < 2 ⌝ }
+    requires { ⌜ now entries ≡ tableOf table ⌝ }
+    ensures { λ r. ⌜ now (index .exit) ≡ putAll table (now (index .entry)) ⌝ }
 {
     let mut k: usize = 0;
-    while k < es.len() {
-        let n = t * 1024 + k as u32;
-        put_entry(n, es[k], x);
+    while k < entries.len() {
+        let number = table * 1024 + k as u32;
+        put_entry(number, entries[k], index);
         k += 1;
     }
 }
 
 // The index of both tables.
-pub fn word_index(m: &[u32; 1024], u: &[u32; 352]) -> [u32; 8192]
-    requires { ⌜ (now m ≡ tableOf 0) × (now u ≡ tableOf 1) ⌝ }
+pub fn word_index(words: &[u32; 1024], substitutes: &[u32; 352]) -> [u32; 8192]
+    requires { ⌜ now words ≡ tableOf 0 ⌝ }
+    requires { ⌜ now substitutes ≡ tableOf 1 ⌝ }
     ensures { λ r. ⌜ r ≡ wordIndex ⌝ }
 {
-    let mut x = [0u32; 8192];
-    put_table(0, m, &mut x);
-    put_table(1, u, &mut x);
-    x
+    let mut index = [0u32; 8192];
+    put_table(0, words, &mut index);
+    put_table(1, substitutes, &mut index);
+    index
 }
 
-// What the word w is read as where the half word f follows: the search through the columns, from the entry on whose number is in the word's slot.
-pub fn read_indexed(m: &[u32; 1024], u: &[u32; 352], x: &[u32; 8192], w: u16, f: u16) -> u32
-    requires { ⌜ (now m ≡ tableOf 0) × (now u ≡ tableOf 1) × (now x ≡ wordIndex) ⌝ }
-    ensures { λ r. ⌜ r ≡ readingNumber (readWord w f) ⌝ }
+// What a word is read as where another half word follows: the search through the columns, from the entry on whose number is in the word's slot.
+pub fn read_indexed(
+    words: &[u32; 1024],
+    substitutes: &[u32; 352],
+    index: &[u32; 8192],
+    word: u16,
+    following: u16,
+) -> u32
+    requires { ⌜ (now words ≡ tableOf 0)
+        × (now substitutes ≡ tableOf 1)
+        × (now index ≡ wordIndex) ⌝ }
+    ensures { λ r. ⌜ r ≡ readingNumber (readWord word following) ⌝ }
 {
-    let z = annexg::both_zero(f);
-    let at = slot_of(w as u32, z);
-    let n = x[at];
+    let zero = annexg::both_zero(following);
+    let at = slot_of(word as u32, zero);
+    let number = index[at];
     // % 2 says nothing new: with it the compiler knows that there are two tables
-    annexg::search_from(m, u, w, z, (n / 1024 % 2) as usize, (n % 1024) as usize)
+    annexg::search_from(
+        words,
+        substitutes,
+        word,
+        zero,
+        (number / 1024 % 2) as usize,
+        (number % 1024) as usize,
+    )
 }

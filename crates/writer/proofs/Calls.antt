@@ -13,15 +13,17 @@ use Rattle.lists.specs.Count.{bit}
 use Rattle.lists.proofs.Bytes.{take-bytes, drop-bytes}
 use Rattle.lists.proofs.Test.{truth}
 use Rattle.annexg.specs.Read.{State}
-use Rattle.channel.specs.Block.{packed, permittedChoices, permittedStream}
-use Rattle.levels.specs.declared.Run.{Run}
-use Rattle.channel.proofs.Joined.{packed-append}
+use Rattle.bytes.specs.Halves.{packed}
+use Rattle.channel.specs.Block.{permittedChoices, permittedStream}
+use Rattle.layout.specs.Lengths.{blockSize, sectorBits, sectorCount, sectorSize, sectorStream, closingSize}
+use Rattle.levels.specs.declared.Running.{Running}
+use Rattle.bytes.proofs.Halves.{packed-append}
 use Rattle.streams.specs.Frames.{sectorOf, sectorsOf, closingOf, blockOf, choicesOf}
 use Rattle.streams.specs.Streams.{Stream}
 use Rattle.streams.proofs.Frames.{block-permitted, block-stream}
 use Rattle.streams.proofs.Range.{sector-near, sector-state, closing-near, closing-state}
 use Rattle.writer.specs.Answers.{sound, sectorRefusal, closingRefusal, sectorNext, sectorOut, closingNext, closingOut}
-use Rattle.writer.specs.Records.{start, runOf, recordOf, afterSector, afterClosing}
+use Rattle.writer.specs.Records.{start, runningOf, recordOf, afterSector, afterClosing}
 use Rattle.writer.specs.Session.{Session, sectorCalls, blockCalls, Handed, at-start, after-sector, after-closing}
 use Rattle.writer.specs.declared.Record.{Record}
 use Rattle.writer.proofs.Signed.{offset-signed, abs-signed, abs-offset}
@@ -35,39 +37,50 @@ open-closed e = subst (λ (b : Bool). T (not b)) e tt
 open-bit : (c : Bool) → c ≡ false → bit c ≡ 0
 open-bit c e = ap bit e
 
-pub sector-sound : (w : Record) (bs : List ℕ) (to : ℕ) → OpenSector w (length bs) to → Bytes bs → Sound (afterSector w bs)
+pub sector-sound :
+    (w : Record) (bs : List ℕ) (to : ℕ) → OpenSector w (length bs) to → Bytes bs → Sound (afterSector w bs)
 sector-sound w bs to o hb =
     let s = o .is in
-    let r = sectorOf (runOf w) bs .run in
-    let n = sector-near (runOf w) bs (sound-room w s 38688 (omega arith)) in
+    let r = sectorOf (runningOf w) bs .running in
+    let n = sector-near (runningOf w) bs (sound-room w s sectorBits (omega arith)) in
     let a = abs-offset (w .dsv) (near w s) in
     let b = open-bit (w .closed) (o .open-yet) in
     record {
-      state = sector-state (runOf w) bs (o .from-is) hb (s .state);
+      state = sector-state (runningOf w) bs (o .from-is) hb (s .state);
       level = n .level;
       sectors = omega (arith, o .more);
       whole = λ c. absurd (open-closed (sym (o .open-yet) ∙ c));
-      dsv = subst (λ (z : ℕ). z ≤ 38688 * (w .sectors + 1) + 32 * bit (w .closed)) (sym (abs-signed (r .dsv))) (omega (arith, s .dsv, n .up, n .down, a, b));
+      dsv =
+          subst (λ (z : ℕ). z ≤ sectorBits * (w .sectors + 1) + 32 * bit (w .closed)) (sym (abs-signed (r .dsv)))
+          (omega (arith, s .dsv, n .up, n .down, a, b));
     }
 
 pub closing-sound : (w : Record) (to : ℕ) → OpenEnd w to → Sound (afterClosing w)
 closing-sound w to o =
     let s = o .is in
-    let r = closingOf (runOf w) .run in
-    let n = closing-near (runOf w) (sound-room w s 32 (omega arith)) in
+    let r = closingOf (runningOf w) .running in
+    let n = closing-near (runningOf w) (sound-room w s 32 (omega arith)) in
     let a = abs-offset (w .dsv) (near w s) in
     let b = open-bit (w .closed) (o .open-yet) in
     record {
-      state = subst State (sym (closing-state (runOf w))) (record { low = omega arith; high = omega arith });
+      state = subst State (sym (closing-state (runningOf w))) (record { low = omega arith; high = omega arith });
       level = n .level;
       sectors = s .sectors;
       whole = λ c. o .full;
-      dsv = subst (λ (z : ℕ). z ≤ 38688 * w .sectors + 32) (sym (abs-signed (r .dsv))) (omega (arith, s .dsv, n .up, n .down, a, b));
+      dsv =
+          subst (λ (z : ℕ). z ≤ sectorBits * w .sectors + 32) (sym (abs-signed (r .dsv)))
+          (omega (arith, s .dsv, n .up, n .down, a, b));
     }
 
 start-sound : Sound start
 start-sound =
-    record { state = record { low = omega arith; high = omega arith }; level = omega arith; sectors = omega arith; whole = λ c. absurd (open-closed c); dsv = omega arith }
+    record {
+      state = record { low = omega arith; high = omega arith };
+      level = omega arith;
+      sectors = omega arith;
+      whole = λ c. absurd (open-closed c);
+      dsv = omega arith;
+    }
 
 sector-keeps : (w : Record) (bs : List ℕ) (to : ℕ) → Bytes bs → Sound w → Sound (sectorNext w bs to)
 unfolding sectorNext
@@ -104,11 +117,15 @@ closing-nine true true false true t e = omega arith
 closing-nine true true false false t e = omega arith
 
 -- RANGE: a record that the writer hands back is never refused with 9, neither for a sector nor for closing
-pub never-nine : (w : Record) → Handed w → (from to : ℕ) → (sectorRefusal w from to ≡ 9 → ⊥) × (closingRefusal w to ≡ 9 → ⊥)
+pub never-nine :
+    (w : Record) → Handed w → (from to : ℕ) → (sectorRefusal w from to ≡ 9 → ⊥) × (closingRefusal w to ≡ 9 → ⊥)
 unfolding sectorRefusal closingRefusal
 never-nine w h from to =
     let t = is-sound w (handed-sound w h) in
-    (sector-nine (eqb from 2366 && eqb to 4836) (sound w) (w .closed || leb 16 (w .sectors)) t, closing-nine (eqb to 4) (sound w) (w .closed) (leb 16 (w .sectors)) t)
+    let full = leb sectorCount (w .sectors) in (
+      sector-nine (eqb from sectorSize && eqb to sectorStream) (sound w) (w .closed || full) t,
+      closing-nine (eqb to closingSize) (sound w) (w .closed) full t,
+    )
 
 -- ---- a block
 
@@ -117,98 +134,135 @@ record Going (bs : List ℕ) (n : ℕ) (s : Session) : Type 0 where
   is : Sound (s .next)
   open-yet : s .next .closed ≡ false
   count : s .next .sectors ≡ n
-  run : runOf (s .next) ≡ sectorsOf (runOf start) bs n .run
-  laid : s .bytes ≡ packed (sectorsOf (runOf start) bs n .halves)
+  running : runningOf (s .next) ≡ sectorsOf (runningOf start) bs n .running
+  laid : s .bytes ≡ packed (sectorsOf (runningOf start) bs n .halves)
 
-run-after : (r : Run) (n : ℕ) (c : Bool) → runOf (recordOf r n c) ≡ r
+run-after : (r : Running) (n : ℕ) (c : Bool) → runningOf (recordOf r n c) ≡ r
 run-after r n c = ap (λ (d : ℕ). record { state = r .state; level = r .level; dsv = d }) (offset-signed (r .dsv))
 
 going-none : (bs : List ℕ) (outs : ℕ → List ℕ) → Going bs 0 (sectorCalls start bs outs 0)
 unfolding sectorCalls sectorsOf packed
-going-none bs outs = record { is = start-sound; open-yet = refl; count = refl; run = refl; laid = refl }
+going-none bs outs = record { is = start-sound; open-yet = refl; count = refl; running = refl; laid = refl }
 
-no-refusal : (w : Record) (from to : ℕ) → Sound w → w .closed ≡ false → w .sectors < 16 → from ≡ 2366 → to ≡ 4836 → sectorRefusal w from to ≡ 0
+no-refusal :
+    (w : Record) (from to : ℕ) → Sound w → w .closed ≡ false → w .sectors < sectorCount → from ≡ sectorSize
+    → to ≡ sectorStream → sectorRefusal w from to ≡ 0
 no-refusal w from to s c n f t =
-    sym (sector-by w from to true true true false false (eq-eqb from 2366 f) (eq-eqb to 4836 t) (truth (sound w) (is-sound w s)) c (lt-leb 16 (w .sectors) n))
+    sym
+    (sector-by w from to true true true false false (eq-eqb from sectorSize f) (eq-eqb to sectorStream t)
+    (truth (sound w) (is-sound w s)) c (lt-leb sectorCount (w .sectors) n))
 
-closing-free : (w : Record) (to : ℕ) → Sound w → w .closed ≡ false → w .sectors ≡ 16 → to ≡ 4 → closingRefusal w to ≡ 0
-closing-free w to s c n t = sym (closing-by w to true true false true (eq-eqb to 4 t) (truth (sound w) (is-sound w s)) c (le-leb 16 (w .sectors) (omega arith)))
+closing-free :
+    (w : Record) (to : ℕ) → Sound w → w .closed ≡ false → w .sectors ≡ sectorCount → to ≡ closingSize
+    → closingRefusal w to ≡ 0
+closing-free w to s c n t =
+    sym
+    (closing-by w to true true false true (eq-eqb to closingSize t) (truth (sound w) (is-sound w s)) c
+    (le-leb sectorCount (w .sectors) (omega arith)))
 
-sector-next : (w : Record) (b out : List ℕ) → sectorRefusal w (length b) (length out) ≡ 0 → (afterSector w b ≡ sectorNext w b (length out)) × (packed (sectorOf (runOf w) b .halves) ≡ sectorOut w b out)
+sector-next :
+    (w : Record) (b out : List ℕ) → sectorRefusal w (length b) (length out) ≡ 0
+    → (afterSector w b ≡ sectorNext w b (length out)) × (packed (sectorOf (runningOf w) b .halves) ≡ sectorOut w b out)
 unfolding sectorNext sectorOut
 sector-next w b out z =
     let f = eq-eqb (sectorRefusal w (length b) (length out)) 0 z in
-    (ap (λ (x : Bool). cond x (afterSector w b) w) (sym f), ap (λ (x : Bool). cond x (packed (sectorOf (runOf w) b .halves)) out) (sym f))
+    let stream = packed (sectorOf (runningOf w) b .halves) in
+    (ap (λ (x : Bool). cond x (afterSector w b) w) (sym f), ap (λ (x : Bool). cond x stream out) (sym f))
+
+-- the bytes of sector k of a block
+abbrev pub sectorAt : List ℕ → ℕ → List ℕ
+sectorAt bs k = take sectorSize (drop (sectorSize * k) bs)
 
 -- the calls for the sixteen sectors of a block and for closing: none is refused, and what their buffers hold then is the stream of permitted choices
 pub record BlockWritten (bs : List ℕ) (outs : ℕ → List ℕ) (end : List ℕ) : Type 0 where
-  pub sectors : (k : ℕ) → k < 16 → sectorRefusal (sectorCalls start bs outs k .next) (length (take 2366 (drop (2366 * k) bs))) (length (outs k)) ≡ 0
-  pub closing : closingRefusal (sectorCalls start bs outs 16 .next) (length end) ≡ 0
-  pub choices : T (permittedChoices bs (choicesOf (runOf start) bs))
-  pub stream : blockCalls bs outs end .bytes ≡ permittedStream bs (choicesOf (runOf start) bs)
+  pub sectors :
+      (k : ℕ) → k < sectorCount
+      → sectorRefusal (sectorCalls start bs outs k .next) (length (sectorAt bs k)) (length (outs k)) ≡ 0
+  pub closing : closingRefusal (sectorCalls start bs outs sectorCount .next) (length end) ≡ 0
+  pub choices : T (permittedChoices bs (choicesOf (runningOf start) bs))
+  pub stream : blockCalls bs outs end .bytes ≡ permittedStream bs (choicesOf (runningOf start) bs)
 
-module _ (bs : List ℕ) (outs : ℕ → List ℕ) (e : length bs ≡ 37856) (hb : Bytes bs) (ho : (k : ℕ) → k < 16 → length (outs k) ≡ 4836) where
-  sector-not-refused : (n : ℕ) → n < 16 → Going bs n (sectorCalls start bs outs n)
-      → sectorRefusal (sectorCalls start bs outs n .next) (length (take 2366 (drop (2366 * n) bs))) (length (outs n)) ≡ 0
+module _ (bs : List ℕ) (outs : ℕ → List ℕ) (e : length bs ≡ blockSize) (hb : Bytes bs)
+    (ho : (k : ℕ) → k < sectorCount → length (outs k) ≡ sectorStream) where
+  sector-not-refused :
+      (n : ℕ) → n < sectorCount → Going bs n (sectorCalls start bs outs n)
+      → sectorRefusal (sectorCalls start bs outs n .next) (length (sectorAt bs n)) (length (outs n)) ≡ 0
   sector-not-refused n h g =
-      let b = take 2366 (drop (2366 * n) bs) in
-      let l : length b ≡ 2366 = length-take 2366 (drop (2366 * n) bs) ∙ omega (arith, length-drop (2366 * n) bs) in
-      no-refusal (sectorCalls start bs outs n .next) (length b) (length (outs n)) (g .is) (g .open-yet) (omega (arith, g .count)) l (ho n h)
+      let w = sectorCalls start bs outs n .next in
+      let b = sectorAt bs n in
+      let l : length b ≡ sectorSize =
+      length-take sectorSize (drop (sectorSize * n) bs) ∙ omega (arith, length-drop (sectorSize * n) bs) in
+      no-refusal w (length b) (length (outs n)) (g .is) (g .open-yet) (omega (arith, g .count)) l (ho n h)
 
-  going-more : (n : ℕ) → n < 16 → Going bs n (sectorCalls start bs outs n) → Going bs (suc n) (sectorCalls start bs outs (suc n))
+  going-more :
+      (n : ℕ) → n < sectorCount → Going bs n (sectorCalls start bs outs n) → Going bs (suc n) (sectorCalls start bs outs (suc n))
   unfolding sectorCalls sectorsOf
   going-more n h g =
       let w = sectorCalls start bs outs n .next in
-      let b = take 2366 (drop (2366 * n) bs) in
+      let b = sectorAt bs n in
+      let bytes = take-bytes sectorSize (drop (sectorSize * n) bs) (drop-bytes (sectorSize * n) bs hb) in
       let z = sector-not-refused n h g in
       let o = sector-opens w (length b) (length (outs n)) z in
       let x = sector-next w b (outs n) z in
-      let m = sectorsOf (runOf start) bs n in
-      let k : sectorOf (runOf w) b ≡ sectorOf (m .run) b = ap (λ (r : Run). sectorOf r b) (g .run) in
+      let m = sectorsOf (runningOf start) bs n in
+      let k : sectorOf (runningOf w) b ≡ sectorOf (m .running) b = ap (λ (r : Running). sectorOf r b) (g .running) in
       record {
-        is = subst Sound (x .0) (sector-sound w b (length (outs n)) o (take-bytes 2366 (drop (2366 * n) bs) (drop-bytes (2366 * n) bs hb)));
+        is = subst Sound (x .0) (sector-sound w b (length (outs n)) o bytes);
         open-yet = ap (λ (r : Record). r .closed) (sym (x .0)) ∙ g .open-yet;
         count = ap (λ (r : Record). r .sectors) (sym (x .0)) ∙ omega (arith, g .count);
-        run = ap runOf (sym (x .0)) ∙ run-after (sectorOf (runOf w) b .run) (w .sectors + 1) (w .closed) ∙ ap (λ (y : Stream). y .run) k;
-        laid = ap₂ (λ (u v : List ℕ). u ++ v) (g .laid) (sym (x .1) ∙ ap (λ (y : Stream). packed (y .halves)) k) ∙ sym (packed-append (m .halves) (sectorOf (m .run) b .halves));
+        running =
+            ap runningOf (sym (x .0))
+            ∙ run-after (sectorOf (runningOf w) b .running) (w .sectors + 1) (w .closed)
+            ∙ ap (λ (y : Stream). y .running) k;
+        laid =
+            ap₂ (λ (u v : List ℕ). u ++ v) (g .laid) (sym (x .1) ∙ ap (λ (y : Stream). packed (y .halves)) k)
+            ∙ sym (packed-append (m .halves) (sectorOf (m .running) b .halves));
       }
 
-  going : (n : ℕ) → n ≤ 16 → Going bs n (sectorCalls start bs outs n)
+  going : (n : ℕ) → n ≤ sectorCount → Going bs n (sectorCalls start bs outs n)
   going zero h = going-none bs outs
   going (suc n) h = going-more n (omega arith) (going n (omega arith))
 
-  module _ (end : List ℕ) (l : length end ≡ 4) where
-    closing-not-refused : closingRefusal (sectorCalls start bs outs 16 .next) (length end) ≡ 0
+  module _ (end : List ℕ) (l : length end ≡ closingSize) where
+    closing-not-refused : closingRefusal (sectorCalls start bs outs sectorCount .next) (length end) ≡ 0
     closing-not-refused =
-        let g = going 16 (omega arith) in
-        closing-free (sectorCalls start bs outs 16 .next) (length end) (g .is) (g .open-yet) (g .count) l
+        let g = going sectorCount (omega arith) in
+        closing-free (sectorCalls start bs outs sectorCount .next) (length end) (g .is) (g .open-yet) (g .count) l
 
     -- PERMITTED: from the first record sixteen sectors and closing are not refused, and what their buffers hold then is a permitted stream of the block
     pub block-written : BlockWritten bs outs end
     unfolding blockCalls blockOf closingOut
     block-written =
-        let g = going 16 (omega arith) in
-        let w = sectorCalls start bs outs 16 .next in
+        let g = going sectorCount (omega arith) in
+        let w = sectorCalls start bs outs sectorCount .next in
         let z = eq-eqb (closingRefusal w (length end)) 0 closing-not-refused in
-        let m = sectorsOf (runOf start) bs 16 in
+        let m = sectorsOf (runningOf start) bs sectorCount in
+        let closing =
+        ap (λ (x : Bool). cond x (packed (closingOf (runningOf w) .halves)) end) z
+        ∙ ap (λ (r : Running). packed (closingOf r .halves)) (g .running) in
         record {
           sectors = λ k h. sector-not-refused k h (going k (omega arith));
           closing = closing-not-refused;
-          choices = block-permitted (runOf start) bs refl;
-          stream = ap₂ (λ (u v : List ℕ). u ++ v) (g .laid) (ap (λ (x : Bool). cond x (packed (closingOf (runOf w) .halves)) end) z ∙ ap (λ (r : Run). packed (closingOf r .halves)) (g .run))
-              ∙ sym (packed-append (m .halves) (closingOf (m .run) .halves)) ∙ block-stream (runOf start) bs refl;
+          choices = block-permitted (runningOf start) bs refl;
+          stream =
+              ap₂ (λ (u v : List ℕ). u ++ v) (g .laid) closing
+              ∙ sym (packed-append (m .halves) (closingOf (m .running) .halves))
+              ∙ block-stream (runningOf start) bs refl;
         }
 
     -- and the record then is the one that the rule over the block leaves, with sixteen sectors, closed
-    pub block-closed : blockCalls bs outs end .next ≡ recordOf (blockOf (runOf start) bs .run) 16 true
+    pub block-closed : blockCalls bs outs end .next ≡ recordOf (blockOf (runningOf start) bs .running) sectorCount true
     unfolding blockCalls blockOf closingNext
     block-closed =
-        let g = going 16 (omega arith) in
-        let w = sectorCalls start bs outs 16 .next in
+        let g = going sectorCount (omega arith) in
+        let w = sectorCalls start bs outs sectorCount .next in
         let z = eq-eqb (closingRefusal w (length end)) 0 closing-not-refused in
-        ap (λ (x : Bool). cond x (afterClosing w) w) z ∙ ap₂ (λ (r : Run) (n : ℕ). recordOf (closingOf r .run) n true) (g .run) (g .count)
+        ap (λ (x : Bool). cond x (afterClosing w) w) z
+        ∙ ap₂ (λ (r : Running) (n : ℕ). recordOf (closingOf r .running) n true) (g .running) (g .count)
 
     -- at State 1
     pub block-closed-state≡1 : blockCalls bs outs end .next .state ≡ 1
     unfolding blockOf
-    block-closed-state≡1 = ap (λ (r : Record). r .state) block-closed ∙ closing-state (sectorsOf (runOf start) bs 16 .run)
+    block-closed-state≡1 =
+        ap (λ (r : Record). r .state) block-closed
+        ∙ closing-state (sectorsOf (runningOf start) bs sectorCount .running)

@@ -1,5 +1,5 @@
 pub mod Sectors
 pub mod Signed
 pub mod Sound
-pub mod Told
+pub mod Numbers
 pub mod Calls

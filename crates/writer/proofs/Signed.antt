@@ -2,7 +2,7 @@
 -- Assumes nothing.
 use mathlib.Core.Path.{_≡_, refl, sym, ap, subst, _∙_}
 use mathlib.Core.Bool.{Bool, true, false, cond, not}
-use Prim.Native.Nat.{ℕ, suc, _-_, _<_, _≤_}
+use Prim.Native.Nat.{ℕ, suc, _*_, _-_, _<_, _≤_}
 use native.Mathlib.Omega.{arith}
 use borrow.Author.Tests.{ltb-true, ltb-false, lt-ltb, le-ltb, le-leb, lt-leb}
 use lib.Dec.{T, leb, ltb}
@@ -44,11 +44,11 @@ abs-offset (negsuc n) h = omega arith
 
 -- ---- what the machine asks and gives
 
-pub fits-abs : (z : ℤ) → natAbs z ≤ 2199023255552 → SFits w64 z
+pub fits-abs : (z : ℤ) → natAbs z ≤ 2 * zeroAt → SFits w64 z
 fits-abs (pos n) h = record { sfits = omega arith }
 fits-abs (negsuc n) h = record { sfits = omega arith }
 
-pub offset-small : (z : ℤ) → natAbs z ≤ zeroAt → offset z ≤ 2199023255552
+pub offset-small : (z : ℤ) → natAbs z ≤ zeroAt → offset z ≤ 2 * zeroAt
 offset-small (pos n) h = omega arith
 offset-small (negsuc n) h = omega arith
 
@@ -57,7 +57,7 @@ pub up : (z : ℤ) → natAbs z ≤ zeroAt → z +ℤ pos zeroAt ≡ pos (offset
 up (pos n) h = ap pos (omega arith)
 up (negsuc n) h = cond-is (ltb zeroAt (suc n)) false _ _ (le-ltb zeroAt (suc n) h)
 
-pub signed-small : (d : ℕ) → d ≤ 2199023255552 → natAbs (signed d) ≤ 2199023255552
+pub signed-small : (d : ℕ) → d ≤ 2 * zeroAt → natAbs (signed d) ≤ 2 * zeroAt
 signed-small d h = omega (arith, abs-signed d)
 
 -- ---- the tests

@@ -7,21 +7,22 @@ use lib.Dec.{eqb, leb}
 use lib.IntN.{natAbs}
 use lib.ListN.{length}
 use Rattle.lists.specs.Count.{bit}
-use Rattle.annexg.specs.Runs.{inside}
-use Rattle.channel.specs.Block.{packed}
+use Rattle.annexg.specs.ZeroRuns.{inside}
+use Rattle.bytes.specs.Halves.{packed}
 use Rattle.streams.specs.Frames.{sectorOf, closingOf}
-use Rattle.writer.specs.Records.{runOf, afterSector, afterClosing}
+use Rattle.layout.specs.Lengths.{sectorCount, sectorSize, sectorStream, sectorBits, closingSize}
+use Rattle.writer.specs.Records.{runningOf, afterSector, afterClosing}
 use Rattle.writer.specs.declared.Answer.{Answer}
-use Rattle.writer.specs.declared.Answer.the-variants.{Done, WrongLength, RunEnded, RunUnfinished, BadRecord}
+use Rattle.writer.specs.declared.Answer.the-variants.{Done, LengthRefused, RunEnded, RunUnfinished, BadRecord}
 use Rattle.writer.specs.declared.Record.{Record}
 
 -- document 01's number for each answer, 0 where nothing is refused
-abbrev pub number : Answer → ℕ
-number Done = 0
-number WrongLength = 1
-number RunEnded = 7
-number RunUnfinished = 8
-number BadRecord = 9
+abbrev pub answerNumber : Answer → ℕ
+answerNumber Done = 0
+answerNumber LengthRefused = 1
+answerNumber RunEnded = 7
+answerNumber RunUnfinished = 8
+answerNumber BadRecord = 9
 
 -- a record that number 9 does not refuse: State 1 to 4, level 0 or 1, at most 16 sectors, closed only with 16, the absolute DSV at most 38,688 times the
 -- sectors, and 32 more if closed
@@ -29,26 +30,31 @@ unfoldable pub sound : Record → Bool
 sound w =
     inside 1 4 (w .state)
     && (leb (w .level) 1
-    && (leb (w .sectors) 16 && ((not (w .closed) || leb 16 (w .sectors)) && leb (natAbs (w .dsv)) (38688 * w .sectors + 32 * bit (w .closed)))))
+    && (leb (w .sectors) sectorCount
+    && ((not (w .closed) || leb sectorCount (w .sectors))
+    && leb (natAbs (w .dsv)) (sectorBits * w .sectors + 32 * bit (w .closed)))))
 
 -- the number that a sector is refused with, by the lengths of its bytes and of the buffer lent: 1, then 9, then 7; 0 where nothing is refused
 unfoldable pub sectorRefusal : Record → ℕ → ℕ → ℕ
-sectorRefusal w from to = cond (eqb from 2366 && eqb to 4836) (cond (sound w) (cond (w .closed || leb 16 (w .sectors)) 7 0) 9) 1
+sectorRefusal w from to =
+    cond (eqb from sectorSize && eqb to sectorStream)
+    (cond (sound w) (cond (w .closed || leb sectorCount (w .sectors)) 7 0) 9) 1
 
 -- the same of closing, by the length of the buffer lent: 1, then 9, then 7, then 8
 unfoldable pub closingRefusal : Record → ℕ → ℕ
-closingRefusal w to = cond (eqb to 4) (cond (sound w) (cond (w .closed) 7 (cond (leb 16 (w .sectors)) 0 8)) 9) 1
+closingRefusal w to =
+    cond (eqb to closingSize) (cond (sound w) (cond (w .closed) 7 (cond (leb sectorCount (w .sectors)) 0 8)) 9) 1
 
 -- the record and the buffer that a sector leaves: as they were where it is refused
 unfoldable pub sectorNext : Record → List ℕ → ℕ → Record
 sectorNext w bs to = cond (eqb (sectorRefusal w (length bs) to) 0) (afterSector w bs) w
 
 unfoldable pub sectorOut : Record → List ℕ → List ℕ → List ℕ
-sectorOut w bs out = cond (eqb (sectorRefusal w (length bs) (length out)) 0) (packed (sectorOf (runOf w) bs .halves)) out
+sectorOut w bs out = cond (eqb (sectorRefusal w (length bs) (length out)) 0) (packed (sectorOf (runningOf w) bs .halves)) out
 
 -- the same of closing
 unfoldable pub closingNext : Record → ℕ → Record
 closingNext w to = cond (eqb (closingRefusal w to) 0) (afterClosing w) w
 
 unfoldable pub closingOut : Record → List ℕ → List ℕ
-closingOut w out = cond (eqb (closingRefusal w (length out)) 0) (packed (closingOf (runOf w) .halves)) out
+closingOut w out = cond (eqb (closingRefusal w (length out)) 0) (packed (closingOf (runningOf w) .halves)) out

@@ -1,20 +1,33 @@
 -- Vocabulary of inner contracts: what the functions of src/sector.rt ask of each other. None of them is public, and no public contract cites it.
 -- Assumes nothing.
 use mathlib.Core.Path.{_≡_}
-use mathlib.Core.List.{List, _++_}
-use Prim.Native.Nat.{ℕ, _+_}
-use lib.ListN.{length, take}
+use mathlib.Core.List.{List}
+use Prim.Native.Nat.{ℕ, _*_, _<_}
+use lib.ListN.{length, take, drop}
 use Rattle.annexg.specs.Read.{State}
-use Rattle.levels.specs.Level.{Room}
-use Rattle.levels.specs.declared.Run.{Run}
+use Rattle.layout.specs.Lengths.{frameBits, frameBytes, frameStream, sectorFrames, sectorSize, sectorStream, sectorBits}
+use Rattle.layout.specs.Sectors.{codeOf}
+use Rattle.levels.specs.Inner.{Room}
+use Rattle.levels.specs.declared.Running.{Running}
+use Rattle.streams.specs.Streams.{Stream, syncFrameOf}
+
+-- frame k of a sector of the bytes bs, from the running record r
+abbrev pub frameAt : Running → List ℕ → ℕ → Stream
+frameAt r bs k = syncFrameOf r (codeOf k) (take frameBytes (drop (frameBytes * k) bs))
+
+-- it may begin, in frame buffers that hold x and y and a sector buffer that holds out
+pub record FrameBegins (r : Running) (k : ℕ) (bs x y out : List ℕ) : Type 0 where
+  pub number : k < sectorFrames
+  pub state : State (r .state)
+  pub room : Room r frameBits
+  pub bytes : length bs ≡ sectorSize
+  pub one : length x ≡ frameStream
+  pub two : length y ≡ frameStream
+  pub whole : length out ≡ sectorStream
 
 -- a sector may begin
-pub record SectorBegins (r : Run) (bs out : List ℕ) : Type 0 where
+pub record SectorBegins (r : Running) (bs out : List ℕ) : Type 0 where
   pub state : State (r .state)
-  pub room : Room r 38688
-  pub bytes : length bs ≡ 2366
-  pub whole : length out ≡ 4836
-
--- the 186 bytes of a buffer were put at the byte `at` of another
-pub record Pasted (from to : List ℕ) (at : ℕ) (out : List ℕ) : Type 0 where
-  pub front : take (at + 186) out ≡ take at to ++ from
+  pub room : Room r sectorBits
+  pub bytes : length bs ≡ sectorSize
+  pub whole : length out ≡ sectorStream

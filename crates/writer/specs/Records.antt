@@ -5,7 +5,7 @@ use mathlib.Core.List.{List}
 use Prim.Native.Nat.{ℕ, suc, _+_, _-_}
 use lib.IntN.{ℤ, pos, negsuc, _-ℤ_}
 use Rattle.levels.specs.Level.{zeroAt}
-use Rattle.levels.specs.declared.Run.{Run}
+use Rattle.levels.specs.declared.Running.{Running}
 use Rattle.streams.specs.Frames.{sectorOf, closingOf}
 use Rattle.writer.specs.declared.Record.{Record}
 
@@ -22,16 +22,16 @@ abbrev pub start : Record
 start = record { state = 1; level = 0; dsv = pos 0; sectors = 0; closed = false }
 
 -- the running record from which the next sector or the closing code is laid
-abbrev pub runOf : Record → Run
-runOf w = record { state = w .state; level = w .level; dsv = offset (w .dsv) }
+abbrev pub runningOf : Record → Running
+runningOf w = record { state = w .state; level = w .level; dsv = offset (w .dsv) }
 
 -- the record with another running record, so many sectors, open or closed
-abbrev pub recordOf : Run → ℕ → Bool → Record
+abbrev pub recordOf : Running → ℕ → Bool → Record
 recordOf r n c = record { state = r .state; level = r .level; dsv = signed (r .dsv); sectors = n; closed = c }
 
 -- the record after a sector of the bytes bs, and after the closing code
 abbrev pub afterSector : Record → List ℕ → Record
-afterSector w bs = recordOf (sectorOf (runOf w) bs .run) (w .sectors + 1) (w .closed)
+afterSector w bs = recordOf (sectorOf (runningOf w) bs .running) (w .sectors + 1) (w .closed)
 
 abbrev pub afterClosing : Record → Record
-afterClosing w = recordOf (closingOf (runOf w) .run) (w .sectors) true
+afterClosing w = recordOf (closingOf (runningOf w) .running) (w .sectors) true

@@ -4,6 +4,7 @@ use mathlib.Core.List.{List, [], _++_}
 use Prim.Native.Nat.{ℕ, zero, suc, _*_}
 use lib.ListN.{length, take, drop}
 use Rattle.lists.specs.Bytes.{Bytes}
+use Rattle.layout.specs.Lengths.{sectorCount, sectorSize}
 use Rattle.writer.specs.Answers.{sectorNext, sectorOut, closingNext, closingOut}
 use Rattle.writer.specs.Records.{start}
 use Rattle.writer.specs.declared.Record.{Record}
@@ -18,13 +19,13 @@ unfoldable pub sectorCalls : Record → List ℕ → (ℕ → List ℕ) → ℕ 
 sectorCalls w bs outs zero = record { bytes = []; next = w }
 sectorCalls w bs outs (suc n) =
     let s = sectorCalls w bs outs n in
-    let b = take 2366 (drop (2366 * n) bs) in
+    let b = take sectorSize (drop (sectorSize * n) bs) in
     record { bytes = s .bytes ++ sectorOut (s .next) b (outs n); next = sectorNext (s .next) b (length (outs n)) }
 
 -- sixteen sectors from the first record, and then closing, with what its buffer holds before
 unfoldable pub blockCalls : List ℕ → (ℕ → List ℕ) → List ℕ → Session
 blockCalls bs outs end =
-    let s = sectorCalls start bs outs 16 in
+    let s = sectorCalls start bs outs sectorCount in
     record { bytes = s .bytes ++ closingOut (s .next) end; next = closingNext (s .next) (length end) }
 
 -- a record that the writer hands back, at its start or after any calls

@@ -5,7 +5,7 @@ mod sector;
 ghost use mathlib.Core.Path.{_≡_};
 ghost use lib.ListN.{length};
 ghost use Rattle.writer.specs.Records.{start};
-ghost use Rattle.writer.specs.Answers.{number, sectorRefusal, sectorNext, sectorOut, closingRefusal, closingNext, closingOut};
+ghost use Rattle.writer.specs.Answers.{answerNumber, sectorRefusal, sectorNext, sectorOut, closingRefusal, closingNext, closingOut};
 
 // The writer's record: the State prescribed next, the NRZI level, the DSV, the sectors written, and whether the closing code is written.
 #[repr(C)]
@@ -20,7 +20,7 @@ pub struct Record {
 // What a call answers. Only `Done` changes anything.
 pub enum Answer {
     Done,
-    WrongLength,
+    LengthRefused,
     RunEnded,
     RunUnfinished,
     BadRecord,
@@ -46,20 +46,21 @@ pub fn new() -> Record
 }
 
 // A sector of 2,366 bytes, laid as 4,836.
-pub fn write_sector(w: Record, bytes: &[u8], out: &mut [u8]) -> Step
-    ensures { λ r. ⌜ (number (r .answer) ≡ sectorRefusal w (length (now (bytes .entry))) (length (now (out .entry))))
-        × ((r .next ≡ sectorNext w (now (bytes .entry)) (length (now (out .entry))))
-        × (now (out .exit) ≡ sectorOut w (now (bytes .entry)) (now (out .entry)))) ⌝ }
+pub fn write_sector(current: Record, bytes: &[u8], out: &mut [u8]) -> Step
+    ensures { λ r. ⌜ (answerNumber (r .answer)
+        ≡ sectorRefusal current (length (now (bytes .entry))) (length (now (out .entry))))
+        × ((r .next ≡ sectorNext current (now (bytes .entry)) (length (now (out .entry))))
+        × (now (out .exit) ≡ sectorOut current (now (bytes .entry)) (now (out .entry)))) ⌝ }
 {
-    let refusal = refusal::sector_refusal(w, bytes.len(), out.len());
+    let refusal = refusal::sector_refusal(current, bytes.len(), out.len());
     let Answer::Done = refusal else {
         return Step {
-            next: w,
+            next: current,
             answer: refusal,
         };
     };
-    let q = sector::sector(refusal::run_of(w), bytes, &mut *out);
-    let next = refusal::record_of(q, w.sectors + 1, w.closed);
+    let running = sector::sector(refusal::running_of(current), bytes, &mut *out);
+    let next = refusal::record_of(running, current.sectors + 1, current.closed);
     Step {
         next,
         answer: Answer::Done,
@@ -67,20 +68,20 @@ pub fn write_sector(w: Record, bytes: &[u8], out: &mut [u8]) -> Step
 }
 
 // The closing code, 4 bytes.
-pub fn close(w: Record, out: &mut [u8]) -> Step
-    ensures { λ r. ⌜ (number (r .answer) ≡ closingRefusal w (length (now (out .entry))))
-        × ((r .next ≡ closingNext w (length (now (out .entry))))
-        × (now (out .exit) ≡ closingOut w (now (out .entry)))) ⌝ }
+pub fn close(current: Record, out: &mut [u8]) -> Step
+    ensures { λ r. ⌜ (answerNumber (r .answer) ≡ closingRefusal current (length (now (out .entry))))
+        × ((r .next ≡ closingNext current (length (now (out .entry))))
+        × (now (out .exit) ≡ closingOut current (now (out .entry)))) ⌝ }
 {
-    let refusal = refusal::closing_refusal(w, out.len());
+    let refusal = refusal::closing_refusal(current, out.len());
     let Answer::Done = refusal else {
         return Step {
-            next: w,
+            next: current,
             answer: refusal,
         };
     };
-    let q = sector::closing(refusal::run_of(w), &mut *out);
-    let next = refusal::record_of(q, w.sectors, true);
+    let running = sector::closing(refusal::running_of(current), &mut *out);
+    let next = refusal::record_of(running, current.sectors, true);
     Step {
         next,
         answer: Answer::Done,

@@ -5,122 +5,138 @@ ghost use Prim.Native.Nat.{_+_, _*_, _≤_};
 ghost use lib.Dec.{leb};
 ghost use lib.IntN.{natAbs};
 ghost use Rattle.lists.specs.Count.{bit};
-ghost use Rattle.writer.specs.Records.{offset, signed, runOf, recordOf};
-ghost use Rattle.writer.specs.Answers.{number, sound, sectorRefusal, closingRefusal};
+ghost use Rattle.layout.specs.Lengths.{sectorCount, sectorBits};
+ghost use Rattle.levels.specs.Level.{zeroAt};
+ghost use Rattle.writer.specs.Records.{offset, signed, runningOf, recordOf};
+ghost use Rattle.writer.specs.Answers.{answerNumber, sound, sectorRefusal, closingRefusal};
 use super::Answer;
 use super::Record;
-use levels::Run;
+use layout::CLOSING_SIZE;
+use layout::SECTOR_BITS;
+use layout::SECTOR_COUNT;
+use layout::SECTOR_SIZE;
+use layout::SECTOR_STREAM;
+use levels::Running;
+use levels::ZERO_AT;
+
+// Where DSV 0 stands in the running record, as a signed number.
+const ZERO: i64 = ZERO_AT as i64;
+
+// The sectors of a block.
+const SECTORS: u32 = SECTOR_COUNT as u32;
+
+// The code bits of the closing code.
+const CLOSING_BITS: u64 = 8 * (CLOSING_SIZE as u64);
 
 // The absolute value is at most 2^40.
-fn is_near(d: i64) -> bool
-    ensures { λ r. ⌜ r ≡ leb (natAbs d) 1099511627776 ⌝ }
+fn is_near(dsv: i64) -> bool
+    ensures { λ r. ⌜ r ≡ leb (natAbs dsv) zeroAt ⌝ }
 {
-    if d < -1099511627776 {
+    if dsv < -ZERO {
         return false;
     }
-    d <= 1099511627776
+    dsv <= ZERO
 }
 
-fn offset_of(d: i64) -> u64
-    requires { ⌜ natAbs d ≤ 1099511627776 ⌝ }
-    ensures { λ r. ⌜ r ≡ offset d ⌝ }
+fn offset_of(dsv: i64) -> u64
+    requires { ⌜ natAbs dsv ≤ zeroAt ⌝ }
+    ensures { λ r. ⌜ r ≡ offset dsv ⌝ }
 {
-    (d + 1099511627776) as u64
+    (dsv + ZERO) as u64
 }
 
-fn signed_of(d: u64) -> i64
-    requires { ⌜ d ≤ 2199023255552 ⌝ }
-    ensures { λ r. ⌜ r ≡ signed d ⌝ }
+fn signed_of(dsv: u64) -> i64
+    requires { ⌜ dsv ≤ 2 * zeroAt ⌝ }
+    ensures { λ r. ⌜ r ≡ signed dsv ⌝ }
 {
-    (d as i64) - 1099511627776
+    (dsv as i64) - ZERO
 }
 
-pub(crate) fn run_of(w: Record) -> Run
-    requires { ⌜ natAbs (w .dsv) ≤ 1099511627776 ⌝ }
-    ensures { λ r. ⌜ r ≡ runOf w ⌝ }
+pub(crate) fn running_of(current: Record) -> Running
+    requires { ⌜ natAbs (current .dsv) ≤ zeroAt ⌝ }
+    ensures { λ r. ⌜ r ≡ runningOf current ⌝ }
 {
-    let dsv = offset_of(w.dsv);
-    Run {
-        state: w.state,
-        level: w.level,
+    let dsv = offset_of(current.dsv);
+    Running {
+        state: current.state,
+        level: current.level,
         dsv,
     }
 }
 
-pub(crate) fn record_of(r: Run, sectors: u32, closed: bool) -> Record
-    requires { ⌜ r .dsv ≤ 2199023255552 ⌝ }
-    ensures { λ w. ⌜ w ≡ recordOf r sectors closed ⌝ }
+pub(crate) fn record_of(running: Running, sectors: u32, closed: bool) -> Record
+    requires { ⌜ running .dsv ≤ 2 * zeroAt ⌝ }
+    ensures { λ r. ⌜ r ≡ recordOf running sectors closed ⌝ }
 {
-    let dsv = signed_of(r.dsv);
+    let dsv = signed_of(running.dsv);
     Record {
-        state: r.state,
-        level: r.level,
+        state: running.state,
+        level: running.level,
         dsv,
         sectors,
         closed,
     }
 }
 
-// The most that the absolute DSV can be.
+// The most that the absolute DSV can be: each code bit moves it by 1.
 fn limit(sectors: u32, closed: bool) -> u64
-    requires { ⌜ sectors ≤ 16 ⌝ }
-    ensures { λ r. ⌜ r ≡ 38688 * sectors + 32 * bit closed ⌝ }
+    requires { ⌜ sectors ≤ sectorCount ⌝ }
+    ensures { λ r. ⌜ r ≡ sectorBits * sectors + 32 * bit closed ⌝ }
 {
-    let n = 38688 * (sectors as u64);
+    let bits = SECTOR_BITS * (sectors as u64);
     if closed {
-        return n + 32;
+        return bits + CLOSING_BITS;
     }
-    n
+    bits
 }
 
 fn is_whole(closed: bool, sectors: u32) -> bool
-    ensures { λ r. ⌜ r ≡ not closed || leb 16 sectors ⌝ }
+    ensures { λ r. ⌜ r ≡ not closed || leb sectorCount sectors ⌝ }
 {
     if closed {
-        return 16 <= sectors;
+        return SECTORS <= sectors;
     }
     true
 }
 
-// No refusal 9.
-fn is_sound(w: Record) -> bool
-    ensures { λ r. ⌜ r ≡ sound w ⌝ }
+// Number 9 does not refuse the record.
+fn is_sound(current: Record) -> bool
+    ensures { λ r. ⌜ r ≡ sound current ⌝ }
 {
-    if w.state < 1 {
+    if current.state < 1 {
         return false;
     }
-    if 4 < w.state {
+    if 4 < current.state {
         return false;
     }
-    if 1 < w.level {
+    if 1 < current.level {
         return false;
     }
-    if 16 < w.sectors {
+    if SECTORS < current.sectors {
         return false;
     }
-    if !is_whole(w.closed, w.sectors) {
+    if !is_whole(current.closed, current.sectors) {
         return false;
     }
-    if !is_near(w.dsv) {
+    if !is_near(current.dsv) {
         return false;
     }
-    levels::absolute(offset_of(w.dsv)) <= limit(w.sectors, w.closed)
+    levels::absolute(offset_of(current.dsv)) <= limit(current.sectors, current.closed)
 }
 
 // No sector may follow: the closing code is written, or the sixteenth sector.
 fn is_ended(closed: bool, sectors: u32) -> bool
-    ensures { λ r. ⌜ r ≡ closed || leb 16 sectors ⌝ }
+    ensures { λ r. ⌜ r ≡ closed || leb sectorCount sectors ⌝ }
 {
     if closed {
         return true;
     }
-    16 <= sectors
+    SECTORS <= sectors
 }
 
-// The refusals because of the state, in their order: 9, then 7, then 8.
-// Numbers 9, 7 and 8 in their order: 9 goes before the others (document 01).
+// The refusals because of the state, in their order (document 01): 9, then 7, then 8.
 fn state_refusal(sound: bool, ended: bool, unfinished: bool) -> Answer
-    ensures { λ r. ⌜ number r ≡ cond sound (cond ended 7 (cond unfinished 8 0)) 9 ⌝ }
+    ensures { λ r. ⌜ answerNumber r ≡ cond sound (cond ended 7 (cond unfinished 8 0)) 9 ⌝ }
 {
     if !sound {
         return Answer::BadRecord;
@@ -135,24 +151,28 @@ fn state_refusal(sound: bool, ended: bool, unfinished: bool) -> Answer
 }
 
 // The refusal of a sector, by the lengths of its bytes and of its buffer.
-pub(crate) fn sector_refusal(w: Record, from: usize, to: usize) -> Answer
-    ensures { λ r. ⌜ number r ≡ sectorRefusal w from to ⌝ }
+pub(crate) fn sector_refusal(current: Record, from: usize, to: usize) -> Answer
+    ensures { λ r. ⌜ answerNumber r ≡ sectorRefusal current from to ⌝ }
 {
-    if from != 2366 {
-        return Answer::WrongLength;
+    if from != SECTOR_SIZE {
+        return Answer::LengthRefused;
     }
-    if to != 4836 {
-        return Answer::WrongLength;
+    if to != SECTOR_STREAM {
+        return Answer::LengthRefused;
     }
-    state_refusal(is_sound(w), is_ended(w.closed, w.sectors), false)
+    state_refusal(
+        is_sound(current),
+        is_ended(current.closed, current.sectors),
+        false,
+    )
 }
 
 // The refusal of closing, by the length of its buffer.
-pub(crate) fn closing_refusal(w: Record, to: usize) -> Answer
-    ensures { λ r. ⌜ number r ≡ closingRefusal w to ⌝ }
+pub(crate) fn closing_refusal(current: Record, to: usize) -> Answer
+    ensures { λ r. ⌜ answerNumber r ≡ closingRefusal current to ⌝ }
 {
-    if to != 4 {
-        return Answer::WrongLength;
+    if to != CLOSING_SIZE {
+        return Answer::LengthRefused;
     }
-    state_refusal(is_sound(w), w.closed, w.sectors < 16)
+    state_refusal(is_sound(current), current.closed, current.sectors < SECTORS)
 }

@@ -1,4 +1,4 @@
--- `annexg::agrees_with` meets its contract: 2 is the next State that disagrees where z is false, 3 where it is true. Assumes nothing.
+-- `annexg::agrees_with` meets its contract: 2 is the next State that disagrees where `zero` is false, 3 where it is true. Assumes nothing.
 use mathlib.Core.Path.{_≡_, refl}
 use mathlib.Core.Bool.{Bool, true, false, not, cond}
 use mathlib.Core.Logic.{dite}
@@ -35,10 +35,10 @@ cast-result : tie.Need-cast-result
 cast-result c = search needs
 
 add-result : tie.Need-add-result
-add-result c = small (c .args .z)
+add-result c = small (c .args .zero)
 
 returns : tie.Need-returns
-returns c = one-disagrees (c .args .n) (c .args .z)
+returns c = one-disagrees (c .args .next) (c .args .zero)
 
 pub agrees-with-spec : {M : Type 1} → statement M
 agrees-with-spec = tie.close (tie.spec cast-result add-result returns)

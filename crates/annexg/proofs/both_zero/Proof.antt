@@ -15,7 +15,7 @@ both-sum (suc a) b = rw (ne-eqb (suc a) 0 (λ e. omega (arith, e))) (sym (ne-eqb
 
 returns : tie.Need-returns
 unfolding bothZero
-returns c = let f = c .args .f in both-sum (f / 32768 % 2) (f / 8 % 2)
+returns c = let f = c .args .following in both-sum (f / 32768 % 2) (f / 8 % 2)
 
 pub both-zero-spec : {M : Type 1} → statement M
 both-zero-spec = tie.close (tie.spec returns)

@@ -15,7 +15,7 @@ returns c = (sym (ap (λ (t : ℕ). length (tableOf t)) (c .if1 .taken) ∙ leng
 
 returns-2 : tie.Need-returns-2
 returns-2 c =
-    let one : c .before .args .t ≡ 1 = omega arith in
+    let one : c .before .args .table ≡ 1 = omega arith in
     (sym (ap (λ (t : ℕ). length (tableOf t)) one ∙ length-sub), lit≤ tt)
 
 pub bytes-of-spec : {M : Type 1} → statement M

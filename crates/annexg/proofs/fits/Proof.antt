@@ -13,7 +13,7 @@ agrees-with-requires c κs = search needs
 
 returns : tie.Need-returns
 unfolding fitsOf
-returns c = let a = c .before .args in ap (λ (b : Bool). eqb (a .e / 16) (a .w) && b) (c .agrees-with .ensures)
+returns c = let a = c .before .args in ap (λ (b : Bool). eqb (a .entry / 16) (a .word) && b) (c .agrees-with .ensures)
 
 pub fits-spec : {M : Type 1} → statement M
 fits-spec = tie.close (tie.spec agrees-with-requires returns)

@@ -4,7 +4,8 @@ use mathlib.Core.Bool.{Bool}
 use Prim.Native.Nat.{ℕ, _<_, _≤_}
 use native.Mathlib.Omega.{arith}
 use borrow.Author.Needs.{needs}
-use Rattle.annexg.specs.Read.{bothZero, readGiven, readFrom, readWord, readingNumber}
+use Rattle.annexg.specs.Read.{bothZero, readGiven, readWord, readingNumber}
+use Rattle.annexg.specs.Inner.{readFrom}
 use Rattle.annexg.specs.declared.Reading.{Reading}
 use Rattle.annexg.specs.declared.Reading.the-variants.{Byte, Unknown}
 use Rattle.annexg.proofs.Search.{from-first}
@@ -37,15 +38,15 @@ returns : tie.Need-returns
 returns c =
     let found = c .before in
     let a = found .before .before .args in
-    let e = first-number (a .w) (a .f) _ _ (found .before .both-zero .ensures) (found .search-from .ensures) in
-    number-byte (readWord (a .w) (a .f)) _ e (c .if1 .taken)
+    let e = first-number (a .word) (a .following) _ _ (found .before .both-zero .ensures) (found .search-from .ensures) in
+    number-byte (readWord (a .word) (a .following)) _ e (c .if1 .taken)
 
 returns-2 : tie.Need-returns-2
 returns-2 c =
     let found = c .before in
     let a = found .before .before .args in
-    let e = first-number (a .w) (a .f) _ _ (found .before .both-zero .ensures) (found .search-from .ensures) in
-    number-unknown (readWord (a .w) (a .f)) _ (byte-small (a .w) (a .f)) e (c .if1 .left)
+    let e = first-number (a .word) (a .following) _ _ (found .before .both-zero .ensures) (found .search-from .ensures) in
+    number-unknown (readWord (a .word) (a .following)) _ (byte-small (a .word) (a .following)) e (c .if1 .left)
 
 pub read-with-spec : {M : Type 1} → statement M
 read-with-spec =

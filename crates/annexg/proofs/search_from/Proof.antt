@@ -6,35 +6,36 @@ use Prim.Native.Nat.{ℕ, suc, _+_, _*_, _-_, _≤_, _<_}
 use native.Mathlib.Omega.{arith}
 use borrow.Author.Needs.{needs}
 use lib.ListN.{length, getD}
-use Rattle.annexg.specs.Read.{tableOf, fitsOf, readFrom, readingNumber}
+use Rattle.annexg.specs.Read.{tableOf, fitsOf, readingNumber}
+use Rattle.annexg.specs.Inner.{readFrom}
 use Rattle.annexg.specs.declared.Reading.the-variants.{Byte}
 use Rattle.annexg.proofs.Search.{from-unfit, from-fit, from-end, from-past}
 use Rattle.annexg.proofs.search_from.Statement.{statement}
 use Rattle.annexg.proofs.search_from.Tie as tie
 
 abbrev Inv-loop3 : tie.InvT-loop3
-Inv-loop3 m u w z table at byte column t n b s₀ s = (s ≤ 4) × (readFrom w z table at ≡ readFrom w z t (b * 4 + s))
+Inv-loop3 words substitutes word zero table at byte column t n b s₀ s = (s ≤ 4) × (readFrom word zero table at ≡ readFrom word zero t (b * 4 + s))
 
 abbrev μ-loop3 : tie.MeasureT-loop3
-μ-loop3 m u w z table at byte column t n b s₀ s = 4 - s
+μ-loop3 words substitutes word zero table at byte column t n b s₀ s = 4 - s
 
 abbrev Inv-loop2 : tie.InvT-loop2
-Inv-loop2 m u w z table at byte column₀ t n b₀ column b = (column ≤ 3) × (readFrom w z table at ≡ readFrom w z t (b * 4 + column))
+Inv-loop2 words substitutes word zero table at byte column₀ t n b₀ column b = (column ≤ 3) × (readFrom word zero table at ≡ readFrom word zero t (b * 4 + column))
 
 abbrev μ-loop2 : tie.MeasureT-loop2
-μ-loop2 m u w z table at byte column₀ t n b₀ column b = n - b
+μ-loop2 words substitutes word zero table at byte column₀ t n b₀ column b = n - b
 
 abbrev Inv-loop : tie.InvT-loop
-Inv-loop m u w z table at byte₀ column₀ t₀ byte column t = (column ≤ 3) × (readFrom w z table at ≡ readFrom w z t (byte * 4 + column))
+Inv-loop words substitutes word zero table at byte₀ column₀ t₀ byte column t = (column ≤ 3) × (readFrom word zero table at ≡ readFrom word zero t (byte * 4 + column))
 
 abbrev μ-loop : tie.MeasureT-loop
-μ-loop m u w z table at byte₀ column₀ t₀ byte column t = 2 - t
+μ-loop words substitutes word zero table at byte₀ column₀ t₀ byte column t = 2 - t
 
 abbrev Inv-found : tie.InvT-found
-Inv-found m u w z table at byte₀ column₀ byte column = (column ≤ 3) × (readFrom w z table at ≡ readFrom w z table (byte * 4 + column))
+Inv-found words substitutes word zero table at byte₀ column₀ byte column = (column ≤ 3) × (readFrom word zero table at ≡ readFrom word zero table (byte * 4 + column))
 
 abbrev μ-found : tie.MeasureT-found
-μ-found m u w z table at byte₀ column₀ byte column = 0
+μ-found words substitutes word zero table at byte₀ column₀ byte column = 0
 
 cast-column :
     tie.Need-cast-column Inv-loop3 μ-loop3 Inv-loop2 μ-loop2 Inv-loop μ-loop Inv-found μ-found
@@ -44,7 +45,7 @@ found-holds :
     tie.Need-found-holds Inv-loop3 μ-loop3 Inv-loop2 μ-loop2 Inv-loop μ-loop Inv-found μ-found
 found-holds c =
     let a = c .args in
-    (omega arith, ap (readFrom (a .w) (a .z) (a .table)) (omega arith))
+    (omega arith, ap (readFrom (a .word) (a .zero) (a .table)) (omega arith))
 
 loop-holds :
     tie.Need-loop-holds Inv-loop3 μ-loop3 Inv-loop2 μ-loop2 Inv-loop μ-loop Inv-found μ-found
@@ -104,10 +105,10 @@ loop3-again c =
     let two : t < 2 = omega (arith, l2 .before .before .loop-test .taken) in
     let k = l2 .loop2 .b * 4 + l3 .loop3 .s in
     let inside : k < length (tableOf t) = omega (arith, l2 .before .bytes-of .ensures .0) in
-    let unfit : fitsOf (a .w) (a .z) (getD (tableOf t) k 0) ≡ false =
-    ap (fitsOf (a .w) (a .z)) (sym (c .before .before .entry .ensures)) ∙ sym (c .before .fits2 .ensures) ∙ c .if1 .left
+    let unfit : fitsOf (a .word) (a .zero) (getD (tableOf t) k 0) ≡ false =
+    ap (fitsOf (a .word) (a .zero)) (sym (c .before .before .entry .ensures)) ∙ sym (c .before .fits2 .ensures) ∙ c .if1 .left
     in
-    (search needs, l3 .loop3 .inv .1 ∙ from-unfit (a .w) (a .z) t k two inside unfit ∙ ap (readFrom (a .w) (a .z) t) (omega arith))
+    (search needs, l3 .loop3 .inv .1 ∙ from-unfit (a .word) (a .zero) t k two inside unfit ∙ ap (readFrom (a .word) (a .zero) t) (omega arith))
 
 add-b : tie.Need-add-b Inv-loop3 μ-loop3 Inv-loop2 μ-loop2 Inv-loop μ-loop Inv-found μ-found
 add-b c = search needs
@@ -120,9 +121,10 @@ loop2-again :
     tie.Need-loop2-again Inv-loop3 μ-loop3 Inv-loop2 μ-loop2 Inv-loop μ-loop Inv-found μ-found
 loop2-again c =
     let l3 = c .before in
-    let l1 = l3 .before .before .before .before .before in
+    let l2 = l3 .before .before in
+    let l1 = l2 .before .before .before in
     let a = l1 .before .before .args in
-    (omega arith, l3 .loop3 .inv .1 ∙ ap (readFrom (a .w) (a .z) (l1 .loop .t)) (omega arith))
+    (omega arith, l3 .loop3 .inv .1 ∙ ap (readFrom (a .word) (a .zero) (l1 .loop .t)) (omega arith))
 
 add-t : tie.Need-add-t Inv-loop3 μ-loop3 Inv-loop2 μ-loop2 Inv-loop μ-loop Inv-found μ-found
 add-t c = search needs
@@ -141,7 +143,7 @@ loop-again c =
     let two : t < 2 = omega (arith, l2 .before .before .loop-test .taken) in
     let next : suc t ≡ t + 1 = omega arith in
     let past : length (tableOf t) ≤ l2 .loop2 .b * 4 + l2 .loop2 .column = omega (arith, l2 .before .bytes-of .ensures .0) in
-    (omega arith, l2 .loop2 .inv .1 ∙ from-end (a .w) (a .z) t _ two past ∙ ap (λ (n : ℕ). readFrom (a .w) (a .z) n 0) next)
+    (omega arith, l2 .loop2 .inv .1 ∙ from-end (a .word) (a .zero) t _ two past ∙ ap (λ (n : ℕ). readFrom (a .word) (a .zero) n 0) next)
 
 returns : tie.Need-returns Inv-loop3 μ-loop3 Inv-loop2 μ-loop2 Inv-loop μ-loop Inv-found μ-found
 returns c =
@@ -153,10 +155,10 @@ returns c =
     let two : t < 2 = omega (arith, l2 .before .before .loop-test .taken) in
     let k = l2 .loop2 .b * 4 + l3 .loop3 .s in
     let inside : k < length (tableOf t) = omega (arith, l2 .before .bytes-of .ensures .0) in
-    let fit : fitsOf (a .w) (a .z) (getD (tableOf t) k 0) ≡ true =
-    ap (fitsOf (a .w) (a .z)) (sym (c .before .before .entry .ensures)) ∙ sym (c .before .fits2 .ensures) ∙ c .if1 .taken
+    let fit : fitsOf (a .word) (a .zero) (getD (tableOf t) k 0) ≡ true =
+    ap (fitsOf (a .word) (a .zero)) (sym (c .before .before .entry .ensures)) ∙ sym (c .before .fits2 .ensures) ∙ c .if1 .taken
     in
-    sym (ap readingNumber (l3 .loop3 .inv .1 ∙ from-fit (a .w) (a .z) t k two inside fit ∙ ap Byte (omega arith)))
+    sym (ap readingNumber (l3 .loop3 .inv .1 ∙ from-fit (a .word) (a .zero) t k two inside fit ∙ ap Byte (omega arith)))
 
 returns-2 :
     tie.Need-returns-2 Inv-loop3 μ-loop3 Inv-loop2 μ-loop2 Inv-loop μ-loop Inv-found μ-found
@@ -164,7 +166,7 @@ returns-2 c =
     let l1 = c .before in
     let a = l1 .before .before .args in
     let past : 2 ≤ l1 .loop .t = omega (arith, c .loop-test .left) in
-    sym (ap readingNumber (l1 .loop .inv .1 ∙ from-past (a .w) (a .z) (l1 .loop .t) _ past))
+    sym (ap readingNumber (l1 .loop .inv .1 ∙ from-past (a .word) (a .zero) (l1 .loop .t) _ past))
 
 pub search-from-spec : {M : Type 1} → statement M
 search-from-spec =

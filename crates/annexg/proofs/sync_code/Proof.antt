@@ -39,13 +39,13 @@ element-copy-out-result c = search needs
 returns : tie.Need-returns
 returns c =
     let a = c .before .before .before .before .args in
-    let e : c .before .before .before .class-of .result * 16 + a .n * 2 + c .before .before .digit .result ≡ (a .s - 1) / 2 * 16 + a .n * 2 + bit (a .c) = omega arith in
+    let e : c .before .before .before .class-of .result * 16 + a .code * 2 + c .before .before .digit .result ≡ (a .state - 1) / 2 * 16 + a .code * 2 + bit (a .secondary) = omega arith in
     ap₂ (λ (l : List ℕ) (k : ℕ). getD l k 0) (c .before .before .before .before .pre) e
 
 returns-2 : tie.Need-returns-2
 returns-2 c =
     let a = c .before .before .before .args in
-    let e : 32 ≤ (a .s - 1) / 2 * 16 + a .n * 2 + bit (a .c) = omega arith in
+    let e : 32 ≤ (a .state - 1) / 2 * 16 + a .code * 2 + bit (a .secondary) = omega arith in
     sym (List·getD-eq-default syncTable 0 (omega (arith, length-sync)))
 
 pub sync-code-spec : {M : Type 1} → statement M

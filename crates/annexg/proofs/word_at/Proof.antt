@@ -12,7 +12,7 @@ entry-requires c κs = search needs
 cast-result : tie.Need-cast-result
 cast-result c =
     let a = c .before .args in
-    omega (arith, c .entry .ensures, entry-below (a .t) (a .b) (a .s))
+    omega (arith, c .entry .ensures, entry-below (a .table) (a .byte) (a .column))
 
 returns : tie.Need-returns
 returns c = search needs

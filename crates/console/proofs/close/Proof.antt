@@ -45,7 +45,7 @@ use denote.Triple.Table.{entered, cited}
 use denote.Triple.Walked.{Stays, stay-ref, gave-slice, walkOf, AllGo, goes-ref, goes-gave-slice, Walks, ends-at, walked, walk-meets}
 use Rattle.writer.specs.declared.Record.{Record}
 use Rattle.writer.specs.declared.Step.{Step}
-use Rattle.writer.specs.Answers.{number, closingRefusal, closingNext, closingOut}
+use Rattle.writer.specs.Answers.{answerNumber, closingRefusal, closingNext, closingOut}
 use Rattle.writer.proofs.Record as T
 use Rattle.writer.proofs.Record.Laws as T′
 use Rattle.writer.proofs.Step as S
@@ -98,7 +98,7 @@ module _ {M : Type 1} (𝓤 : URA M) (H : Heap 𝓤) (A : Atoms 𝓤) (W : Given
   Post = walkOf 𝓤 H A close.ended stayed (close.clauses 𝓤 H A at-mem run) .post (((κ, (κ′, tt)), (q, (q′, tt)), bounds, a, at), tt)
 
   abbrev Said : Step → List ℕ → Type 0
-  Said r zs = (number (r .answer) ≡ closingRefusal h (length ys)) × ((r .next ≡ closingNext h (length ys)) × (zs ≡ closingOut h ys))
+  Said r zs = (answerNumber (r .answer) ≡ closingRefusal h (length ys)) × ((r .next ≡ closingNext h (length ys)) × (zs ≡ closingOut h ys))
 
   -- what is left when the record w is kept
   exits : (r : Step) (w : Record) (v : Val) (zs : List ℕ) → Is E.the-row (r .answer) (v ∷ []) → Said r zs → w ≡ closingNext h (length ys) → length zs ≡ length ys

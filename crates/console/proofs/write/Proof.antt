@@ -46,7 +46,7 @@ use denote.Triple.Walked.{Stays, stay-ref, gave-slice, stay-dropped, walkOf, All
 use denote.Exit.{yes}
 use Rattle.writer.specs.declared.Record.{Record}
 use Rattle.writer.specs.declared.Step.{Step}
-use Rattle.writer.specs.Answers.{number, sectorRefusal, sectorNext, sectorOut}
+use Rattle.writer.specs.Answers.{answerNumber, sectorRefusal, sectorNext, sectorOut}
 use Rattle.writer.proofs.Record as T
 use Rattle.writer.proofs.Record.Laws as T′
 use Rattle.writer.proofs.Step as S
@@ -105,7 +105,7 @@ module _ {M : Type 1} (𝓤 : URA M) (H : Heap 𝓤) (A : Atoms 𝓤) (W : Given
   Post = walkOf 𝓤 H A write.ended stayed (write.clauses 𝓤 H A at-mem run) .post (((κ, (κ₁, (κ′, tt))), (q, (q₁, (q′, tt))), bounds, a, at), tt)
 
   abbrev Said : Step → List ℕ → Type 0
-  Said r zs = (number (r .answer) ≡ sectorRefusal h (length xs) (length ys)) × ((r .next ≡ sectorNext h xs (length ys)) × (zs ≡ sectorOut h xs ys))
+  Said r zs = (answerNumber (r .answer) ≡ sectorRefusal h (length xs) (length ys)) × ((r .next ≡ sectorNext h xs (length ys)) × (zs ≡ sectorOut h xs ys))
 
   -- what is left when the record w is kept
   exits : (r : Step) (w : Record) (v : Val) (zs : List ℕ) → Is E.the-row (r .answer) (v ∷ []) → Said r zs → w ≡ sectorNext h xs (length ys) → length zs ≡ length ys

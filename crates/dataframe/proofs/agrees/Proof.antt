@@ -25,8 +25,9 @@ shared-slice-read-if1-2 c = omega arith
 
 returns : tie.Need-returns Inv-loop μ-loop
 returns c =
-    let a = c .before .before .before .before .before .args in
-    sym (agree-not (a .xs .now) (a .ys .now) (c .before .before .before .before .loop .i) (c .before .before .before .before .before .pre) (omega arith) (c .if1 .taken))
+    let turn = c .before .before .before .before in
+    let start = turn .before in
+    sym (agree-not (start .args .xs .now) (start .args .ys .now) (turn .loop .i) (start .pre) (omega arith) (c .if1 .taken))
 
 add-i : tie.Need-add-i Inv-loop μ-loop
 add-i c = omega arith
@@ -38,7 +39,10 @@ loop-again : tie.Need-loop-again Inv-loop μ-loop
 loop-again c = (omega arith, below-more _ _ (c .before .before .before .before .loop .inv .1) (c .if1 .left))
 
 returns-2 : tie.Need-returns-2 Inv-loop μ-loop
-returns-2 c = sym (agree-all (c .before .before .args .xs .now) (c .before .before .args .ys .now) (c .before .before .pre) (λ k h. c .before .loop .inv .1 k (omega arith)))
+returns-2 c =
+    let turn = c .before in
+    let start = turn .before in
+    sym (agree-all (start .args .xs .now) (start .args .ys .now) (start .pre) (λ k h. turn .loop .inv .1 k (omega arith)))
 
 pub agrees-spec : {M : Type 1} → statement M
 agrees-spec =

@@ -20,20 +20,33 @@ id-passes-requires c κs = search needs
 
 returns-2 : tie.Need-returns-2
 returns-2 c =
-    refusal-5 _ _ _ _ (sym (c .before .before .before .before .ied-passes .ensures) ∙ not-false _ (c .before .before .before .if1 .left)) (sym (c .before .id-passes .ensures) ∙ not-true _ (c .if2 .taken))
+    let id = c .before in
+    let passed = id .before .before in
+    let ied = passed .before in
+    refusal-5 _ _ _ _ (sym (ied .ied-passes .ensures) ∙ not-false _ (passed .if1 .left)) (sym (id .id-passes .ensures) ∙ not-true _ (c .if2 .taken))
 
 edc-passes-requires : tie.Need-edc-passes-requires
 edc-passes-requires c κs = search needs
 
 returns-3 : tie.Need-returns-3
 returns-3 c =
-    refusal-6 _ _ _ _ (sym (c .before .before .before .before .before .before .ied-passes .ensures) ∙ not-false _ (c .before .before .before .before .before .if1 .left)) (sym (c .before .before .before .id-passes .ensures) ∙ not-false _ (c .before .before .if2 .left))
-    (sym (c .before .edc-passes .ensures) ∙ not-true _ (c .if3 .taken))
+    let edc = c .before in
+    let again = edc .before in
+    let id = again .before in
+    let passed = id .before .before in
+    let ied = passed .before in
+    refusal-6 _ _ _ _ (sym (ied .ied-passes .ensures) ∙ not-false _ (passed .if1 .left)) (sym (id .id-passes .ensures) ∙ not-false _ (again .if2 .left))
+    (sym (edc .edc-passes .ensures) ∙ not-true _ (c .if3 .taken))
 
 returns-4 : tie.Need-returns-4
 returns-4 c =
-    refusal-none _ _ _ _ (sym (c .before .before .before .before .before .before .ied-passes .ensures) ∙ not-false _ (c .before .before .before .before .before .if1 .left)) (sym (c .before .before .before .id-passes .ensures) ∙ not-false _ (c .before .before .if2 .left))
-    (sym (c .before .edc-passes .ensures) ∙ not-false _ (c .if3 .left))
+    let edc = c .before in
+    let again = edc .before in
+    let id = again .before in
+    let passed = id .before .before in
+    let ied = passed .before in
+    refusal-none _ _ _ _ (sym (ied .ied-passes .ensures) ∙ not-false _ (passed .if1 .left)) (sym (id .id-passes .ensures) ∙ not-false _ (again .if2 .left))
+    (sym (edc .edc-passes .ensures) ∙ not-false _ (c .if3 .left))
 
 pub check-frame-spec : {M : Type 1} → statement M
 check-frame-spec =

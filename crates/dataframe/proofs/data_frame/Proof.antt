@@ -8,20 +8,20 @@ use Rattle.dataframe.proofs.data_frame.Tie as tie
 head-requires : tie.Need-head-requires
 head-requires c κs = search needs
 
-slice-aggregate-put-at : tie.Need-slice-aggregate-put-at
-slice-aggregate-put-at c = search needs
+slice-aggregate-put : tie.Need-slice-aggregate-put
+slice-aggregate-put c = search needs
 
-slice-aggregate-put-at-2 : tie.Need-slice-aggregate-put-at-2
-slice-aggregate-put-at-2 c = search needs
+slice-aggregate-put-2 : tie.Need-slice-aggregate-put-2
+slice-aggregate-put-2 c = search needs
 
-put-at-requires : tie.Need-put-at-requires
-put-at-requires c κs = search needs
+put-requires : tie.Need-put-requires
+put-requires c κs = search needs
 
-slice-aggregate-put-at-3 : tie.Need-slice-aggregate-put-at-3
-slice-aggregate-put-at-3 c = search needs
+slice-aggregate-put-3 : tie.Need-slice-aggregate-put-3
+slice-aggregate-put-3 c = search needs
 
-put-at-requires-2 : tie.Need-put-at-requires-2
-put-at-requires-2 c κs = search needs
+put-requires-2 : tie.Need-put-requires-2
+put-requires-2 c κs = search needs
 
 edc-table-requires : tie.Need-edc-table-requires
 edc-table-requires c κs = search needs
@@ -38,36 +38,43 @@ part-edc-end c = search needs
 edc-requires : tie.Need-edc-requires
 edc-requires c κs = search needs
 
-slice-aggregate-put-at-4 : tie.Need-slice-aggregate-put-at-4
-slice-aggregate-put-at-4 c = search needs
+slice-aggregate-put-4 : tie.Need-slice-aggregate-put-4
+slice-aggregate-put-4 c = search needs
 
-slice-aggregate-put-at-5 : tie.Need-slice-aggregate-put-at-5
-slice-aggregate-put-at-5 c = search needs
+slice-aggregate-put-5 : tie.Need-slice-aggregate-put-5
+slice-aggregate-put-5 c = search needs
 
-put-at-requires-3 : tie.Need-put-at-requires-3
-put-at-requires-3 c κs = search needs
+put-requires-3 : tie.Need-put-requires-3
+put-requires-3 c κs = search needs
 
 returns : tie.Need-returns
 returns c =
-    data-built _ _ _ (c .before .before .before .before .before .before .before .before .before .before .before .before .before .before .before .before .before .before .pre .1) _ _ _ _ _ _ refl (c .before .before .before .before .before .before .before .before .before .before .before .before .before .before .before .before .head .ensures) (c .before .before .before .before .before .before .before .before .before .before .before .before .before .put-at .ensures) (c .before .before .before .before .before .before .before .before .before .before .put-at2 .ensures) (c .before .before .before .before .edc .ensures)
-    (c .before .put-at3 .ensures)
+    let finished = c .before in
+    let checked = finished .before .before .before in
+    let tabled = checked .before .before .before .before in
+    let filled = tabled .before .before in
+    let headed = filled .before .before .before in
+    let made = headed .before .before .before in
+    let start = made .before .before in
+    data-built _ _ _ (start .pre .1) _ _ _ _ _ _ refl (made .head .ensures) (headed .put .ensures) (filled .put2 .ensures) (checked .edc .ensures)
+    (finished .put3 .ensures)
 
 pub data-frame-spec : {M : Type 1} → statement M
 data-frame-spec =
     tie.close
     (tie.spec
     head-requires
-    slice-aggregate-put-at
-    slice-aggregate-put-at-2
-    put-at-requires
-    slice-aggregate-put-at-3
-    put-at-requires-2
+    slice-aggregate-put
+    slice-aggregate-put-2
+    put-requires
+    slice-aggregate-put-3
+    put-requires-2
     edc-table-requires
     sub-edc
     part-edc-start
     part-edc-end
     edc-requires
-    slice-aggregate-put-at-4
-    slice-aggregate-put-at-5
-    put-at-requires-3
+    slice-aggregate-put-4
+    slice-aggregate-put-5
+    put-requires-3
     returns)

@@ -3,9 +3,10 @@ use mathlib.Core.Path.{_≡_, ap, ap₂, _∙_}
 use mathlib.Core.List.{List}
 use lib.ListN.{length, take, drop, length-drop}
 use lib.Seq.{take-all}
+use Prim.Native.Nat.{ℕ}
+use Rattle.layout.specs.Lengths.{edcPlace, frameSize}
 use Rattle.edc.specs.Edc.{edcOf}
 use Rattle.dataframe.specs.Checks.{agree, edcPasses}
-use Prim.Native.Nat.{ℕ}
 use native.Mathlib.Omega.{arith}
 use borrow.Author.Needs.{needs}
 use Rattle.dataframe.proofs.edc_passes.Statement.{statement}
@@ -47,10 +48,14 @@ agrees-requires c κs = search needs
 returns : tie.Need-returns
 unfolding edcPasses
 returns c =
-    let f = c .before .before .before .before .before .before .before .before .before .before .args .t1 in
-    let len : length f ≡ 2064 = search needs in
-    let a : take 4 (drop 2060 f) ≡ drop 2060 f = take-all 4 (drop 2060 f) (rw length-drop (omega arith)) in
-    c .agrees .ensures ∙ ap₂ agree a (c .before .before .before .before .edc .ensures ∙ ap (λ (x : List ℕ). edcOf (take 2060 x)) (c .before .before .before .before .before .before .before .before .before .unscramble .ensures))
+    let summed = c .before .before .before .before in
+    let tabled = summed .before .before .before .before in
+    let plain = tabled .before in
+    let f = plain .before .args .t1 in
+    let len : length f ≡ frameSize = search needs in
+    let a : take 4 (drop edcPlace f) ≡ drop edcPlace f = take-all 4 (drop edcPlace f) (rw length-drop (omega arith)) in
+    let e = summed .edc .ensures ∙ ap (λ (x : List ℕ). edcOf (take edcPlace x)) (plain .unscramble .ensures) in
+    c .agrees .ensures ∙ ap₂ agree a e
 
 pub edc-passes-spec : {M : Type 1} → statement M
 edc-passes-spec =

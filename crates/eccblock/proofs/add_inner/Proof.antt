@@ -2,20 +2,24 @@
 use mathlib.Core.Path.{_≡_, sym, ap, _∙_}
 use mathlib.Core.List.{List}
 use Prim.Native.Nat.{ℕ, _+_, _*_, _≤_, _-_}
-use lib.ListN.{length, take, drop}
-use borrow.Author.Needs.{needs}
-use Rattle.codes.specs.Parity.{parity}
-use Rattle.eccblock.specs.Stages.{Rows}
-use Rattle.eccblock.proofs.Staged.{rows-more}
 use native.Mathlib.Omega.{arith}
+use borrow.Author.Needs.{needs}
+use lib.ListN.{length, take, drop}
+use lib.Seq.{length-sets}
+use Rattle.layout.specs.Lengths.{rowCount, columnCount, rowSize, innerSize, blockSize}
+use Rattle.codes.specs.Parity.{parity}
+use Rattle.eccblock.specs.Inner.{Rows}
+use Rattle.eccblock.proofs.Staged.{rows-more}
 use Rattle.eccblock.proofs.add_inner.Statement.{statement}
 use Rattle.eccblock.proofs.add_inner.Tie as tie
 
 abbrev Inv-loop : tie.InvT-loop
-Inv-loop m out₀ q₀ out q = (q ≤ 208) × (length out ≡ 37856) × ((main : List ℕ) (first info : ℕ) → Rows main first info 0 out₀ → Rows main first info q out)
+Inv-loop table out₀ q₀ out q =
+    (q ≤ rowCount) × (length out ≡ blockSize)
+    × ((main : List ℕ) (first info : ℕ) → Rows main first info 0 out₀ → Rows main first info q out)
 
 abbrev μ-loop : tie.MeasureT-loop
-μ-loop m out₀ q₀ out q = 208 - q
+μ-loop table out₀ q₀ out q = rowCount - q
 
 loop-holds : tie.Need-loop-holds Inv-loop μ-loop
 loop-holds c = (omega arith, c .before .pre .1, λ m f i v. v)
@@ -38,8 +42,11 @@ part-parity10-with-end c = omega arith
 parity10-with-requires : tie.Need-parity10-with-requires Inv-loop μ-loop
 parity10-with-requires c κs = search needs
 
-store-inner-requires : tie.Need-store-inner-requires Inv-loop μ-loop
-store-inner-requires c κs = search needs
+slice-aggregate-put : tie.Need-slice-aggregate-put Inv-loop μ-loop
+slice-aggregate-put c = search needs
+
+put-requires : tie.Need-put-requires Inv-loop μ-loop
+put-requires c κs = search needs
 
 add-q : tie.Need-add-q Inv-loop μ-loop
 add-q c = omega arith
@@ -49,17 +56,28 @@ loop-less c = omega arith
 
 loop-again : tie.Need-loop-again Inv-loop μ-loop
 loop-again c =
-    let l = c .before .before .before .before .before .before .before .before .before .loop in
-    let w = c .before .before .store-inner .ensures in
-    let e : l .q * 182 + 172 - l .q * 182 ≡ 172 = omega arith in
-    let p = c .before .before .before .before .before .parity10-with .ensures ∙ ap (λ (m : ℕ). parity 10 (take m (drop (l .q * 182) (l .out)))) e in
-    (omega arith, w .size ∙ l .inv .1, λ m f i v. rows-more m f i (l .q) _ (l .out) _ (omega arith) p w (l .inv .2 m f i v))
+    let called = c .before .before in
+    let divided = called .before .before .before in
+    let turn = divided .before .before .before .before in
+    let l = turn .loop in
+    let q : ℕ = l .q in
+    let p = divided .parity10-with .result in
+    let size : length p ≡ innerSize = search needs in
+    let e : q * rowSize + columnCount - q * rowSize ≡ columnCount = omega arith in
+    let is = divided .parity10-with .ensures ∙ ap (λ (m : ℕ). parity innerSize (take m (drop (q * rowSize) (l .out)))) e in
+    let put = called .put .ensures in (
+      omega arith,
+      ap length put ∙ length-sets (l .out) (q * rowSize + columnCount) p ∙ l .inv .1,
+      λ m f i v. rows-more m f i q p (l .out) _ (omega arith) is size put (l .inv .2 m f i v),
+    )
 
 same-length : tie.Need-same-length Inv-loop μ-loop
 same-length c = c .before .loop .inv .1 ∙ sym (c .before .before .before .pre .1)
 
 returns : tie.Need-returns Inv-loop μ-loop
-returns c = let e : c .before .loop .q ≡ 208 = omega arith in (c .before .loop .inv .1, λ m f i v. rw e at (c .before .loop .inv .2 m f i v))
+returns c =
+    let e : c .before .loop .q ≡ rowCount = omega arith in
+    (c .before .loop .inv .1, λ m f i v. rw e at (c .before .loop .inv .2 m f i v))
 
 pub add-inner-spec : {M : Type 1} → statement M
 add-inner-spec =
@@ -74,7 +92,8 @@ add-inner-spec =
     part-parity10-with-start
     part-parity10-with-end
     parity10-with-requires
-    store-inner-requires
+    slice-aggregate-put
+    put-requires
     add-q
     loop-less
     loop-again

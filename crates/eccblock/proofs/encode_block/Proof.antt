@@ -22,14 +22,22 @@ returns-2 c =
 
 returns-3 : tie.Need-returns-3
 returns-3 c =
-    let a = c .before .before .before .before .before .args in
-    let e = not-sixteen (length (a .main .now)) (length (a .out .now)) (a .first) (a .info) (c .before .before .if1 .left) (c .before .if2 .left) (c .if3 .taken) in
+    let fits = c .before in
+    let whole = fits .before in
+    let a = whole .before .before .before .args in
+    let e =
+    not-sixteen (length (a .main .now)) (length (a .out .now)) (a .first) (a .info) (whole .if1 .left) (fits .if2 .left) (c .if3 .taken) in
     (e, buffer-left (a .main .now) (a .first) (a .info) (a .out .now) 2 e (λ z. omega (arith, z)))
 
 returns-4 : tie.Need-returns-4
 returns-4 c =
-    let a = c .before .before .before .before .before .before .args in
-    let e = number-over (length (a .main .now)) (length (a .out .now)) (a .first) (a .info) (c .before .before .before .if1 .left) (c .before .before .if2 .left) (c .before .if3 .left) (c .if4 .taken) in
+    let sixteen = c .before in
+    let fits = sixteen .before in
+    let whole = fits .before in
+    let a = whole .before .before .before .args in
+    let e =
+    number-over (length (a .main .now)) (length (a .out .now)) (a .first) (a .info) (whole .if1 .left) (fits .if2 .left) (sixteen .if3 .left)
+    (c .if4 .taken) in
     (e, buffer-left (a .main .now) (a .first) (a .info) (a .out .now) 2 e (λ z. omega (arith, z)))
 
 judge-information-requires : tie.Need-judge-information-requires
@@ -41,11 +49,19 @@ encode-number-requires c κs = search needs
 returns-5 : tie.Need-returns-5
 returns-5 c =
     let passed = c .before .before .before in
-    let a = passed .before .before .before .before .before .before .args in
+    let sixteen = passed .before in
+    let fits = sixteen .before in
+    let whole = fits .before in
+    let a = whole .before .before .before .args in
     let answer = c .before .before .judge-information in
     let e : encodeNumber (answer .result) ≡ encodeRefusal (length (a .main .now)) (length (a .out .now)) (a .first) (a .info) =
-    answer .ensures ∙ by-information (length (a .main .now)) (length (a .out .now)) (a .first) (a .info) (passed .before .before .before .if1 .left) (passed .before .before .if2 .left) (passed .before .if3 .left) (passed .if4 .left) in
-    (e, buffer-left (a .main .now) (a .first) (a .info) (a .out .now) (encodeNumber (answer .result)) e (λ z. omega (arith, z, c .before .encode-number .ensures, c .if5 .taken)))
+    answer .ensures
+    ∙ by-information (length (a .main .now)) (length (a .out .now)) (a .first) (a .info) (whole .if1 .left) (fits .if2 .left) (sixteen .if3 .left)
+    (passed .if4 .left) in (
+      e,
+      buffer-left (a .main .now) (a .first) (a .info) (a .out .now) (encodeNumber (answer .result)) e
+          (λ z. omega (arith, z, c .before .encode-number .ensures, c .if5 .taken)),
+    )
 
 fill-block-requires : tie.Need-fill-block-requires
 fill-block-requires c κs = search needs
@@ -57,11 +73,20 @@ returns-6 : tie.Need-returns-6
 returns-6 c =
     let judged = c .before .before .before .before in
     let passed = judged .before .before .before in
-    let a = passed .before .before .before .before .before .before .args in
+    let sixteen = passed .before in
+    let fits = sixteen .before in
+    let whole = fits .before in
+    let a = whole .before .before .before .args in
     let answer = judged .before .before .judge-information in
     let e : encodeNumber (answer .result) ≡ encodeRefusal (length (a .main .now)) (length (a .out .now)) (a .first) (a .info) =
-    answer .ensures ∙ by-information (length (a .main .now)) (length (a .out .now)) (a .first) (a .info) (passed .before .before .before .if1 .left) (passed .before .before .if2 .left) (passed .before .if3 .left) (passed .if4 .left) in
-    (e, c .before .before .fill-block .ensures ∙ buffer-made (a .main .now) (a .first) (a .info) (a .out .now) (encodeNumber (answer .result)) e (omega (arith, judged .before .encode-number .ensures, judged .if5 .left)))
+    answer .ensures
+    ∙ by-information (length (a .main .now)) (length (a .out .now)) (a .first) (a .info) (whole .if1 .left) (fits .if2 .left) (sixteen .if3 .left)
+    (passed .if4 .left) in (
+      e,
+      c .before .before .fill-block .ensures
+          ∙ buffer-made (a .main .now) (a .first) (a .info) (a .out .now) (encodeNumber (answer .result)) e
+          (omega (arith, judged .before .encode-number .ensures, judged .if5 .left)),
+    )
 
 pub encode-block-spec : {M : Type 1} → statement M
 encode-block-spec =

@@ -27,10 +27,16 @@ same-length c = search needs
 
 returns : tie.Need-returns
 returns c =
-    let a = c .before .before .before .before .before .before .before .before .before .before .before .before .before .before .before .before .before .before .before .before .args in
-    let v = c .before .before .before .before .before .before .before .add-outer .ensures .1 (a .main .now) (a .first) (a .info) (c .before .before .before .before .before .before .before .before .before .before .before .before .store-frames .ensures) in
+    let rows = c .before .before in
+    let between = rows .before .before .before in
+    let columns = between .before .before in
+    let earlier = columns .before .before .before in
+    let frames = earlier .before .before in
+    let tables = frames .before .before .before .before in
+    let a = tables .before .before .before .before .args in
+    let v = columns .add-outer .ensures .1 (a .main .now) (a .first) (a .info) (frames .store-frames .ensures) in
     rows-all (a .main .now) (a .first) (a .info) _
-    (c .before .before .add-inner .ensures .1 (a .main .now) (a .first) (a .info) (rows-none (a .main .now) (a .first) (a .info) _ v))
+    (rows .add-inner .ensures .1 (a .main .now) (a .first) (a .info) (rows-none (a .main .now) (a .first) (a .info) _ v))
 
 pub fill-block-spec : {M : Type 1} → statement M
 fill-block-spec =

@@ -2,6 +2,7 @@
 use mathlib.Core.Path.{_≡_, ap, _∙_}
 use Prim.Native.Nat.{ℕ, _+_, _*_, _-_}
 use lib.ListN.{take, drop}
+use Rattle.layout.specs.Lengths.{frameMainSize}
 use Rattle.scrambling.specs.Scrambling.{scrambled}
 use Rattle.dataframe.specs.Frame.{dataFrame}
 use Rattle.eccblock.specs.Block.{frame}
@@ -16,11 +17,11 @@ mul-base c = search needs
 add-end : tie.Need-add-end
 add-end c = search needs
 
-cast-n : tie.Need-cast-n
-cast-n c = search needs
+cast-number : tie.Need-cast-number
+cast-number c = search needs
 
-add-n : tie.Need-add-n
-add-n c = search needs
+add-number : tie.Need-add-number
+add-number c = search needs
 
 sub-data-frame : tie.Need-sub-data-frame
 sub-data-frame c = search needs
@@ -41,10 +42,10 @@ returns : tie.Need-returns
 unfolding frame
 returns c =
     let a = c .before .before .before .before .args in
-    let e : 2048 * a .k + 2048 - 2048 * a .k ≡ 2048 = omega arith in
+    let e : frameMainSize * a .k + frameMainSize - frameMainSize * a .k ≡ frameMainSize = omega arith in
     c .scramble .ensures
     ∙ ap (scrambled (a .first + a .k))
-    (c .before .data-frame .ensures ∙ ap (λ (m : ℕ). dataFrame (take m (drop (2048 * a .k) (a .main .now))) (a .info) (a .first + a .k)) e)
+    (c .before .data-frame .ensures ∙ ap (λ (m : ℕ). dataFrame (take m (drop (frameMainSize * a .k) (a .main .now))) (a .info) (a .first + a .k)) e)
 
 pub scrambled-frame-spec : {M : Type 1} → statement M
 scrambled-frame-spec =
@@ -52,8 +53,8 @@ scrambled-frame-spec =
     (tie.spec
     mul-base
     add-end
-    cast-n
-    add-n
+    cast-number
+    add-number
     sub-data-frame
     part-data-frame-start
     part-data-frame-end

@@ -2,17 +2,18 @@
 use mathlib.Core.Path.{_≡_, sym, _∙_}
 use Prim.Native.Nat.{_≤_, _-_}
 use borrow.Author.Needs.{needs}
-use Rattle.eccblock.specs.Stages.{Frames}
+use Rattle.layout.specs.Lengths.{sectorCount}
+use Rattle.eccblock.specs.Inner.{Frames}
 use Rattle.eccblock.proofs.Staged.{frames-none, frames-more}
 use native.Mathlib.Omega.{arith}
 use Rattle.eccblock.proofs.store_frames.Statement.{statement}
 use Rattle.eccblock.proofs.store_frames.Tie as tie
 
 abbrev Inv-loop : tie.InvT-loop
-Inv-loop t main first info out₀ k₀ out k = (k ≤ 16) × Frames main first info k out
+Inv-loop logs main first info out₀ k₀ out k = (k ≤ sectorCount) × Frames main first info k out
 
 abbrev μ-loop : tie.MeasureT-loop
-μ-loop t main first info out₀ k₀ out k = 16 - k
+μ-loop logs main first info out₀ k₀ out k = sectorCount - k
 
 loop-holds : tie.Need-loop-holds Inv-loop μ-loop
 loop-holds c = (omega arith, frames-none _ _ _ _ (c .before .before .pre .3))
@@ -34,17 +35,20 @@ loop-less c = omega arith
 
 loop-again : tie.Need-loop-again Inv-loop μ-loop
 loop-again c =
-    let l = c .before .before .before .before .before .before .before .loop in
-    let a = c .before .before .before .before .before .before .before .before .before .before .args in (
+    let stored = c .before .before in
+    let made = stored .before .before .before in
+    let turn = made .before .before in
+    let a = turn .before .before .before .args in
+    let l = turn .loop in (
       omega arith,
-      frames-more (a .main .now) (a .first) (a .info) (l .k) _ (l .out) _ (c .before .before .before .before .before .scrambled-frame .ensures) (c .before .before .store-frame .ensures) (l .inv .1),
+      frames-more (a .main .now) (a .first) (a .info) (l .k) _ (l .out) _ (made .scrambled-frame .ensures) (stored .store-frame .ensures) (l .inv .1),
     )
 
 same-length : tie.Need-same-length Inv-loop μ-loop
 same-length c = c .before .loop .inv .1 .size ∙ sym (c .before .before .before .before .pre .3)
 
 returns : tie.Need-returns Inv-loop μ-loop
-returns c = let e : c .before .loop .k ≡ 16 = omega arith in rw e at (c .before .loop .inv .1)
+returns c = let e : c .before .loop .k ≡ sectorCount = omega arith in rw e at (c .before .loop .inv .1)
 
 pub store-frames-spec : {M : Type 1} → statement M
 store-frames-spec =

@@ -54,10 +54,14 @@ element-copy-out-result-4 c = search needs
 returns : tie.Need-returns
 unfolding add
 returns c =
-    let s = c .before .before .before .before .before .before .before .before in
-    let a = s .args in
-    table-four (a .t .now) (a .r) (a .a) (a .b) (a .c) (a .d) _ _ _ _ (s .pre) (omega arith) (c .before .before .before .before .before .before .before .index .ensures) (c .before .before .before .before .before .before .index2 .ensures) (c .before .before .before .before .before .index3 .ensures)
-    (c .before .before .before .before .index4 .ensures)
+    let fourth = c .before .before .before .before in
+    let third = fourth .before in
+    let second = third .before in
+    let first = second .before in
+    let start = first .before in
+    let a = start .args in
+    table-four (a .table .now) (a .r) (a .a) (a .b) (a .c) (a .d) _ _ _ _ (start .pre) (omega arith) (first .index .ensures) (second .index2 .ensures)
+    (third .index3 .ensures) (fourth .index4 .ensures)
 
 pub edc-four-spec : {M : Type 1} → statement M
 edc-four-spec =

@@ -10,10 +10,10 @@ use Rattle.edc.proofs.edc_number.Statement.{statement}
 use Rattle.edc.proofs.edc_number.Tie as tie
 
 abbrev Inv-loop : tie.InvT-loop
-Inv-loop t xs s₀ i₀ s i = (i ≤ length xs) × (i % 4 ≡ 0) × (edcFrom s (drop i xs) ≡ edcFrom s₀ xs)
+Inv-loop table xs s₀ i₀ s i = (i ≤ length xs) × (i % 4 ≡ 0) × (edcFrom s (drop i xs) ≡ edcFrom s₀ xs)
 
 abbrev μ-loop : tie.MeasureT-loop
-μ-loop t xs s₀ i₀ s i = length xs - i
+μ-loop table xs s₀ i₀ s i = length xs - i
 
 loop-holds : tie.Need-loop-holds Inv-loop μ-loop
 loop-holds c = (omega arith, refl, refl)
@@ -50,8 +50,10 @@ loop-less c = omega arith
 
 loop-again : tie.Need-loop-again Inv-loop μ-loop
 loop-again c =
-    let a = c .before .before .before .before .before .before .before .before .args in
-    let l = c .before .before .before .before .before .before .loop in (
+    let read = c .before .before .before .before in
+    let turn = read .before .before in
+    let a = turn .before .before .args in
+    let l = turn .loop in (
       omega arith,
       omega arith,
       ap (λ (x : ℕ). edcFrom x (drop (l .i + 4) (a .xs .now))) (c .edc-four .ensures) ∙ edc-next-four (l .s) (a .xs .now) (l .i) (omega arith) ∙ l .inv .2,

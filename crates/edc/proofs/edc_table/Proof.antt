@@ -2,7 +2,7 @@
 use mathlib.Core.Path.{refl}
 use Rattle.lists.specs.Fill.{tabulateFrom}
 use Rattle.edc.specs.Edc.{edcBit, edcBits, edcFrom}
-use Rattle.edc.specs.Tables.{edcEntry, edcTable}
+use Rattle.edc.specs.Inner.{edcEntry, edcTable}
 use Rattle.edc.proofs.edc_table.Statement.{statement}
 use Rattle.edc.proofs.edc_table.Tie as tie
 

@@ -7,17 +7,17 @@ use borrow.Author.Needs.{needs}
 use Rattle.edc.proofs.four_bytes.Statement.{statement}
 use Rattle.edc.proofs.four_bytes.Tie as tie
 
-byte-requires : tie.Need-byte-requires
-byte-requires c κs = search needs
+low-byte-requires : tie.Need-low-byte-requires
+low-byte-requires c κs = search needs
 
-byte-requires-2 : tie.Need-byte-requires-2
-byte-requires-2 c κs = search needs
+low-byte-requires-2 : tie.Need-low-byte-requires-2
+low-byte-requires-2 c κs = search needs
 
-byte-requires-3 : tie.Need-byte-requires-3
-byte-requires-3 c κs = search needs
+low-byte-requires-3 : tie.Need-low-byte-requires-3
+low-byte-requires-3 c κs = search needs
 
-byte-requires-4 : tie.Need-byte-requires-4
-byte-requires-4 c κs = search needs
+low-byte-requires-4 : tie.Need-low-byte-requires-4
+low-byte-requires-4 c κs = search needs
 
 four-built : (r a b c d : ℕ) → a ≡ r / 16777216 % 256 → b ≡ r / 65536 % 256 → c ≡ r / 256 % 256 → d ≡ r % 256 → a ∷ b ∷ c ∷ d ∷ [] ≡ fourBytes r
 unfolding fourBytes
@@ -28,8 +28,8 @@ returns c =
     let last = c .before in
     let third = last .before in
     let second = third .before in
-    four-built _ _ _ _ _ (second .byte .ensures) (third .byte2 .ensures) (last .byte3 .ensures) (c .byte4 .ensures)
+    four-built _ _ _ _ _ (second .low-byte .ensures) (third .low-byte2 .ensures) (last .low-byte3 .ensures) (c .low-byte4 .ensures)
 
 pub four-bytes-spec : {M : Type 1} → statement M
 four-bytes-spec =
-    tie.close (tie.spec byte-requires byte-requires-2 byte-requires-3 byte-requires-4 returns)
+    tie.close (tie.spec low-byte-requires low-byte-requires-2 low-byte-requires-3 low-byte-requires-4 returns)

@@ -1,5 +1,5 @@
 -- `field::power` meets its contract: it calls itself at half the exponent, which falls. Assumes nothing.
-use mathlib.Core.Path.{_≡_, sym, ap, _∙_}
+use mathlib.Core.Path.{sym, ap, _∙_}
 use native.Mathlib.Omega.{arith}
 use Prim.Native.Nat.{ℕ, _<_}
 use borrow.Fn.Kinds.{In}
@@ -76,10 +76,11 @@ power-returns-3 : (t : ℕ) → power-lts.Need-returns-3 (
   product-reads.Learnt,
 ) (power-at t) power.Post
 power-returns-3 t c =
-    let s = c .before .before .before .before .before in
+    let halved = c .before .before .before in
+    let s = halved .before .before in
     c .product2 .ensures ∙ ap (λ (x : ℕ). mul x (s .args .a)) (c .before .before .product .ensures)
-    ∙ pow-odd (s .args .a) (s .args .n) (c .before .before .before .power .result) (omega (arith, c .before .before .before .before .if1 .left))
-    (omega (arith, c .before .if2 .left)) (c .before .before .before .power .ensures)
+    ∙ pow-odd (s .args .a) (s .args .n) (halved .power .result) (omega (arith, halved .before .if1 .left))
+    (omega (arith, c .before .if2 .left)) (halved .power .ensures)
 
 pub +power-spec : {M : Type 1} → statement M
 +power-spec = close μ-power λ t. power-lts.spec (

@@ -1,6 +1,6 @@
 -- `field::inverse_of` meets its contract: 0 for 0, and else the power of α at 255 less the logarithm. Assumes nothing.
-use mathlib.Core.Path.{_≡_, sym, ap, _∙_}
-use Prim.Native.Nat.{ℕ, _+_, _<_}
+use mathlib.Core.Path.{sym, ap, _∙_}
+use Prim.Native.Nat.{ℕ}
 use native.Mathlib.Omega.{arith}
 use lib.ListN.{getD}
 use borrow.Author.Needs.{needs}
@@ -9,9 +9,6 @@ use Rattle.field.proofs.Inverse.{inverse-zero}
 use Rattle.field.proofs.Tables.{log-lt, inverse-log}
 use Rattle.field.proofs.inverse_of.Statement.{statement}
 use Rattle.field.proofs.inverse_of.Tie as tie
-use Rattle.field.proofs.inverse_of.Reads as reads
-use Rattle.field.proofs.inverse_of.Lts as lts
-use Rattle.field.proofs.index.Reads as index-reads
 
 returns : tie.Need-returns
 returns c = sym (ap inverse (c .if1 .taken) ∙ inverse-zero)
@@ -30,8 +27,8 @@ sub-result c =
     let s = c .before .before .before .before in
     omega (
       arith,
-      log-lt (s .args .t .now) (s .pre) (s .args .a) (c .index2 .result) (c .before .before .before .if1 .left) (omega arith)
-          (c .index2 .ensures ∙ ap (λ (x : ℕ). getD (s .args .t .now) x 0) (c .before .before .index .ensures)),
+      log-lt (s .args .logs .now) (s .pre) (s .args .a) (c .index2 .result) (c .before .before .before .if1 .left) (omega arith)
+          (c .index2 .ensures ∙ ap (λ (x : ℕ). getD (s .args .logs .now) x 0) (c .before .before .index .ensures)),
     )
 
 add-result : tie.Need-add-result
@@ -44,8 +41,8 @@ returns-2 : tie.Need-returns-2
 returns-2 c =
     let d = c .before in
     let s = d .before .before .before .before in
-    inverse-log (s .args .t .now) (s .pre) (s .args .a) (d .index2 .result) (d .before .before .before .if1 .left) (omega arith)
-    (d .index2 .ensures ∙ ap (λ (x : ℕ). getD (s .args .t .now) x 0) (d .before .before .index .ensures))
+    inverse-log (s .args .logs .now) (s .pre) (s .args .a) (d .index2 .result) (d .before .before .before .if1 .left) (omega arith)
+    (d .index2 .ensures ∙ ap (λ (x : ℕ). getD (s .args .logs .now) x 0) (d .before .before .index .ensures))
 
 pub inverse-of-spec : {M : Type 1} → statement M
 inverse-of-spec =

@@ -4,8 +4,6 @@ use Rattle.field.specs.Field.{add, double}
 use Rattle.field.proofs.Tables.{logRight, expRight, right-table}
 use Rattle.field.proofs.log_table.Statement.{statement}
 use Rattle.field.proofs.log_table.Tie as tie
-use Rattle.field.proofs.log_table.Reads as reads
-use Rattle.field.proofs.log_table.Lts as lts
 
 returns : tie.Need-returns
 unfolding add double logRight expRight

@@ -1,19 +1,17 @@
 -- `field::product` meets its contract: 0 where a factor is 0, and else the power of α at the sum of the logarithms. Assumes nothing.
-use mathlib.Core.List.{List}
-use mathlib.Core.Path.{_≡_, sym, ap, ap₂, _∙_}
+use mathlib.Core.Path.{sym, ap, _∙_}
 use Prim.Native.Nat.{ℕ, _+_, _<_}
 use native.Mathlib.Omega.{arith}
 use lib.ListN.{getD}
 use borrow.Author.Needs.{needs}
 use Rattle.field.specs.Field.{mul}
-use Rattle.field.specs.Tables.{LogTable}
 use Rattle.field.proofs.Field.{zero-mul, mul-zero}
 use Rattle.field.proofs.Tables.{log-lt, product-log}
 use Rattle.field.proofs.product.Statement.{statement}
 use Rattle.field.proofs.product.Tie as tie
 use Rattle.field.proofs.product.Reads as reads
 use Rattle.field.proofs.product.Lts as lts
-use Rattle.field.proofs.index.Reads as index-reads
+use Rattle.bytes.proofs.index.Reads as index-reads
 
 returns : tie.Need-returns
 returns c = sym (ap (λ (x : ℕ). mul x (c .before .args .b)) (c .if1 .taken) ∙ zero-mul (c .before .args .b))
@@ -42,25 +40,21 @@ index-requires-4 c κs = search needs
 abbrev At : Type 0
 At = lts.After-index4 (index-reads.Asked, index-reads.Learnt) reads.Pre reads.Post
 
-table : At → List ℕ
-table c = c .before .before .before .before .before .before .before .before .args .t .now
-
-log-a : (c : At) → c .before .before .before .index2 .result ≡ getD (table c) (c .before .before .before .before .before .before .before .before .args .a) 0
-unfolding table
-log-a c = c .before .before .before .index2 .ensures ∙ ap (λ (x : ℕ). getD (table c) x 0) (c .before .before .before .before .before .index .ensures)
-
-log-b : (c : At) → c .index4 .result ≡ getD (table c) (c .before .before .before .before .before .before .before .before .args .b) 0
-unfolding table
-log-b c = c .index4 .ensures ∙ ap (λ (x : ℕ). getD (table c) x 0) (c .before .before .index3 .ensures)
-
+-- two logarithms are indices of one power
 small : (c : At) → c .before .before .before .index2 .result + c .index4 .result < 512
-unfolding table
 small c =
-    let s = c .before .before .before .before .before .before .before .before in
+    let second = c .before .before in
+    let first = second .before in
+    let looked = first .before .before in
+    let neither = looked .before in
+    let start = neither .before .before in
+    let a = start .args in
     omega (
       arith,
-      log-lt (table c) (s .pre) (s .args .a) (c .before .before .before .index2 .result) (c .before .before .before .before .before .before .before .if1 .left) (omega arith) (log-a c),
-      log-lt (table c) (s .pre) (s .args .b) (c .index4 .result) (c .before .before .before .before .before .before .if2 .left) (omega arith) (log-b c),
+      log-lt (a .logs .now) (start .pre) (a .a) (first .index2 .result) (neither .before .if1 .left) (omega arith)
+          (first .index2 .ensures ∙ ap (λ (x : ℕ). getD (a .logs .now) x 0) (looked .index .ensures)),
+      log-lt (a .logs .now) (start .pre) (a .b) (c .index4 .result) (neither .if2 .left) (omega arith)
+          (c .index4 .ensures ∙ ap (λ (x : ℕ). getD (a .logs .now) x 0) (second .index3 .ensures)),
     )
 
 add-result : tie.Need-add-result
@@ -73,12 +67,18 @@ element-copy-out-result : tie.Need-element-copy-out-result
 element-copy-out-result c = omega (arith, small c)
 
 returns-3 : tie.Need-returns-3
-unfolding table
 returns-3 c =
-    let d = c .before in
-    let s = d .before .before .before .before .before .before .before .before in
-    product-log (table d) (s .pre) (s .args .a) (s .args .b) (d .before .before .before .index2 .result) (d .index4 .result)
-    (d .before .before .before .before .before .before .before .if1 .left) (omega arith) (d .before .before .before .before .before .before .if2 .left) (omega arith) (log-a d) (log-b d)
+    let both = c .before in
+    let second = both .before .before in
+    let first = second .before in
+    let looked = first .before .before in
+    let neither = looked .before in
+    let start = neither .before .before in
+    let a = start .args in
+    product-log (a .logs .now) (start .pre) (a .a) (a .b) (first .index2 .result) (both .index4 .result)
+    (neither .before .if1 .left) (omega arith) (neither .if2 .left) (omega arith)
+    (first .index2 .ensures ∙ ap (λ (x : ℕ). getD (a .logs .now) x 0) (looked .index .ensures))
+    (both .index4 .ensures ∙ ap (λ (x : ℕ). getD (a .logs .now) x 0) (second .index3 .ensures))
 
 pub product-spec : {M : Type 1} → statement M
 product-spec =

@@ -1,6 +1,7 @@
 -- `write_block` meets its contract. Assumes nothing.
 use mathlib.Core.Path.{refl, _∙_}
 use lib.ListN.{take, drop}
+use Rattle.layout.specs.Lengths.{sectorsStream, closingSize}
 use Rattle.formatter.proofs.Sectors.{closed-up}
 use borrow.Author.Needs.{needs}
 use Rattle.formatter.proofs.write_block.Statement.{statement}
@@ -26,11 +27,15 @@ same-length c = search needs
 
 returns : tie.Need-returns
 returns c =
-    let s = c .before .before .before .before .before .before .before .before .before .before in
-    let q = c .before .before .before .before .before .before .write-sectors in
-    let z = c .before .before .close in
-    closed-up (s .args .block .now) (s .args .out .now) (q .last .1 .0) (z .last .1 .0) (take 4 (drop 77376 (q .last .1 .0))) (q .result) 4 (s .pre .1) (q .kept .1 .0 ∙ s .pre .1)
-    (q .ensures .0) (q .ensures .1) refl refl (z .ensures .1 .1)
+    let closed = c .before .before in
+    let written = closed .before .before .before .before in
+    let start = written .before .before .before .before in
+    let a = start .args in
+    let q = written .write-sectors in
+    let z = closed .close in
+    let stream = q .last .1 .0 in
+    closed-up (a .block .now) (a .out .now) stream (z .last .1 .0) (take closingSize (drop sectorsStream stream)) (q .result) closingSize (start .pre .1)
+    (q .kept .1 .0 ∙ start .pre .1) (q .ensures .0) (q .ensures .1) refl refl (z .ensures .1 .1)
 
 pub write-block-spec : {M : Type 1} → statement M
 write-block-spec =

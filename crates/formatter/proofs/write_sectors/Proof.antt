@@ -1,9 +1,9 @@
 -- `write_sectors` meets its contract. Assumes nothing.
 use mathlib.Core.Path.{_≡_, refl, sym, ap, _∙_}
-use mathlib.Core.List.{List, _++_}
-use Prim.Native.Nat.{ℕ, _+_, _-_, _*_, _<_, _≤_}
-use lib.ListN.{length, take, drop, length-drop}
-use lib.Seq.{length-take-le}
+use mathlib.Core.List.{List}
+use Prim.Native.Nat.{ℕ, _+_, _-_, _*_, _≤_}
+use lib.ListN.{length, take, drop}
+use Rattle.layout.specs.Lengths.{sectorCount, sectorSize, sectorStream, streamSize}
 use Rattle.formatter.proofs.Sectors.{Written, written-none, written-more, written-length}
 use native.Mathlib.Omega.{arith}
 use borrow.Author.Needs.{needs}
@@ -11,10 +11,10 @@ use Rattle.formatter.proofs.write_sectors.Statement.{statement}
 use Rattle.formatter.proofs.write_sectors.Tie as tie
 
 abbrev Inv-loop : tie.InvT-loop
-Inv-loop block out₀ w₀ k₀ out w k = (k ≤ 16) × Written block out₀ k w out × (length out ≡ 77380)
+Inv-loop block out₀ w₀ k₀ out w k = (k ≤ sectorCount) × Written block out₀ k w out × (length out ≡ streamSize)
 
 abbrev μ-loop : tie.MeasureT-loop
-μ-loop block out₀ w₀ k₀ out w k = 16 - k
+μ-loop block out₀ w₀ k₀ out w k = sectorCount - k
 
 new-requires : tie.Need-new-requires Inv-loop μ-loop
 new-requires c κs = search needs
@@ -63,28 +63,36 @@ loop-less c = omega arith
 
 loop-again : tie.Need-loop-again Inv-loop μ-loop
 loop-again c =
-    let s = c .before .before .before .before .before .before .before .before .before .before .before in
-    let l = c .before .before .before .before .before .before .before .loop in
-    let q = c .before .before .before .write-sector in
-    let n = 4836 * l .k + 4836 - 4836 * l .k in
-    let b : List ℕ = take (2366 * l .k + 2366 - 2366 * l .k) (drop (2366 * l .k) (s .args .block .now)) in
-    let o : List ℕ = take n (drop (4836 * l .k) (l .out)) in
-    let m : 2366 * l .k + 2366 - 2366 * l .k ≡ 2366 = omega arith in
-    let eb : b ≡ take 2366 (drop (2366 * l .k) (s .args .block .now)) = ap (λ (x : ℕ). take x (drop (2366 * l .k) (s .args .block .now))) m in
+    let written = c .before .before .before in
+    let turn = written .before .before .before .before in
+    let start = turn .before .before .before .before in
+    let l = turn .loop in
+    let q = written .write-sector in
+    let bs = start .args .block .now in
+    let old = start .args .out .now in
+    let from = sectorSize * l .k in
+    let at = sectorStream * l .k in
+    let b : List ℕ = take (from + sectorSize - from) (drop from bs) in
+    let o : List ℕ = take (at + sectorStream - at) (drop at (l .out)) in
+    let m : from + sectorSize - from ≡ sectorSize = omega arith in
+    let eb : b ≡ take sectorSize (drop from bs) = ap (λ (x : ℕ). take x (drop from bs)) m in
     let more =
-    written-more (s .args .block .now) (s .args .out .now) (l .k) (l .w) (l .out) (omega arith) (s .pre .1) (l .inv .1) (q .last .1 .1 .0) b o (q .result .next) n (omega arith) (omega arith) eb refl
-    (q .ensures .1 .0) (q .ensures .1 .1) (q .kept .1 .1 .0) in
-    (omega arith, more, written-length (s .args .block .now) (s .args .out .now) (l .k + 1) _ _ (omega arith) (s .pre .1) more)
+    written-more bs old (l .k) (l .w) (l .out) (omega arith) (start .pre .1) (l .inv .1) (q .last .1 .1 .0) b o (q .result .next)
+    (at + sectorStream - at) (omega arith) (omega arith) eb refl (q .ensures .1 .0) (q .ensures .1 .1) (q .kept .1 .1 .0) in
+    (omega arith, more, written-length bs old (l .k + 1) _ _ (omega arith) (start .pre .1) more)
 
 same-length : tie.Need-same-length Inv-loop μ-loop
-same-length c = c .before .loop .inv .2 ∙ sym (c .before .before .before .before .before .pre .1)
+same-length c =
+    let turn = c .before in
+    turn .loop .inv .2 ∙ sym (turn .before .before .before .before .pre .1)
 
 returns : tie.Need-returns Inv-loop μ-loop
 returns c =
-    let s = c .before .before .before .before .before in
-    let l = c .before .loop in
-    let e : l .k ≡ 16 = omega arith in
-    let g : Written (s .args .block .now) (s .args .out .now) 16 (l .w) (l .out) = rw e at (l .inv .1) in
+    let turn = c .before in
+    let a = turn .before .before .before .before .args in
+    let l = turn .loop in
+    let e : l .k ≡ sectorCount = omega arith in
+    let g : Written (a .block .now) (a .out .now) sectorCount (l .w) (l .out) = rw e at (l .inv .1) in
     (g .next, g .bytes)
 
 pub write-sectors-spec : {M : Type 1} → statement M

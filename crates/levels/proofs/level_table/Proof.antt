@@ -3,7 +3,7 @@
 use mathlib.Core.Path.{refl}
 use Rattle.lists.specs.Fill.{tabulateFrom}
 use Rattle.levels.specs.Level.{levelAfter}
-use Rattle.levels.specs.Levels.{atOne, byteLevels, levelTable}
+use Rattle.levels.specs.Inner.{atOne, byteLevels, levelTable}
 use Rattle.levels.proofs.level_table.Statement.{statement}
 use Rattle.levels.proofs.level_table.Tie as tie
 

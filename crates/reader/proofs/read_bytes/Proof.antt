@@ -6,17 +6,21 @@ use lib.ListN.{length}
 use Rattle.lists.specs.Count.{countFrom}
 use Rattle.lists.proofs.Count.{count-le, count-snoc}
 use Rattle.lists.proofs.Fill.{Upto, upto-none, upto-more, upto-all}
-use Rattle.channel.specs.Block.{halfOf, halfAt, readAt}
+use Rattle.layout.specs.Lengths.{sectorSize, frameBytes}
+use Rattle.layout.specs.Sectors.{halfOf}
+use Rattle.bytes.specs.Halves.{halfAt}
+use Rattle.channel.specs.Block.{readAt}
 use Rattle.reader.specs.Sector.{unknownAt, unknownTally}
 use Rattle.reader.proofs.Steps.{byte-is, unknown-is}
 use Rattle.reader.proofs.read_bytes.Statement.{statement}
 use Rattle.reader.proofs.read_bytes.Tie as tie
 
 abbrev Inv-loop : tie.InvT-loop
-Inv-loop m u x stream out₀ unknown₀ i₀ out unknown i = (i ≤ 2366) × Upto (readAt stream) out₀ out i × (unknown ≡ countFrom (unknownAt stream) 0 i)
+Inv-loop words substitutes index stream out₀ unknown₀ i₀ out unknown i =
+    (i ≤ sectorSize) × Upto (readAt stream) out₀ out i × (unknown ≡ countFrom (unknownAt stream) 0 i)
 
 abbrev μ-loop : tie.MeasureT-loop
-μ-loop m u x stream out₀ unknown₀ i₀ out unknown i = 2366 - i
+μ-loop words substitutes index stream out₀ unknown₀ i₀ out unknown i = sectorSize - i
 
 loop-holds : tie.Need-loop-holds Inv-loop μ-loop
 loop-holds c = (omega arith, upto-none _ _, refl)
@@ -30,32 +34,38 @@ add-k c = omega arith
 add-k-2 : tie.Need-add-k-2 Inv-loop μ-loop
 add-k-2 c = omega arith
 
-half-requires : tie.Need-half-requires Inv-loop μ-loop
-half-requires c κs = omega (arith, c .before .before .before .before .pre .3)
+half-at-requires : tie.Need-half-at-requires Inv-loop μ-loop
+half-at-requires c κs = let start = c .before .before .before .before in omega (arith, start .pre .3)
 
-add-half : tie.Need-add-half Inv-loop μ-loop
-add-half c = omega arith
+add-half-at : tie.Need-add-half-at Inv-loop μ-loop
+add-half-at c = omega arith
 
-half-requires-2 : tie.Need-half-requires-2 Inv-loop μ-loop
-half-requires-2 c κs = omega (arith, c .before .before .before .before .before .pre .3)
+half-at-requires-2 : tie.Need-half-at-requires-2 Inv-loop μ-loop
+half-at-requires-2 c κs =
+    let turn = c .before .before in
+    let start = turn .before .before .before in
+    omega (arith, start .pre .3)
 
 read-indexed-requires : tie.Need-read-indexed-requires Inv-loop μ-loop
 read-indexed-requires c κs =
-    let s = c .before .before .before .before .before .before in
-    (s .pre .0, s .pre .1, s .pre .2)
+    let turn = c .before .before .before in
+    let start = turn .before .before .before in
+    (start .pre .0, start .pre .1, start .pre .2)
 
 cast-out : tie.Need-cast-out Inv-loop μ-loop
 cast-out c = omega arith
 
 slice-write-out : tie.Need-slice-write-out Inv-loop μ-loop
 slice-write-out c =
-    let l = c .before .before .before .before in
-    omega (arith, l .loop .inv .1 .same, l .before .before .before .pre .4)
+    let turn = c .before .before .before .before in
+    let start = turn .before .before .before in
+    omega (arith, turn .loop .inv .1 .same, start .pre .4)
 
 add-unknown : tie.Need-add-unknown Inv-loop μ-loop
 add-unknown c =
-    let l = c .before .before .before .before in
-    omega (arith, l .loop .inv .2, count-le (unknownAt (l .before .before .before .args .stream .now)) 0 (l .loop .i))
+    let turn = c .before .before .before .before in
+    let xs = turn .before .before .before .args .stream .now in
+    omega (arith, turn .loop .inv .2, count-le (unknownAt xs) 0 (turn .loop .i))
 
 add-i : tie.Need-add-i Inv-loop μ-loop
 add-i c = omega arith
@@ -65,17 +75,18 @@ loop-less c = omega arith
 
 loop-again : tie.Need-loop-again Inv-loop μ-loop
 loop-again c =
-    let l = c .before .before .before .before in
-    let s = l .before .before .before in
-    let xs = s .args .stream .now in
-    let place : l .loop .i + 2 * (l .loop .i / 91) + 2 ≡ halfOf (l .loop .i) = omega arith in
-    let hw = c .before .before .half .ensures ∙ ap (halfAt xs) place in
-    let hf = c .before .half2 .ensures ∙ ap (λ (n : ℕ). halfAt xs (n + 1)) place in
-    let hr = c .read-indexed .ensures in
-    let inside : l .loop .i < length (l .loop .out) = omega (arith, l .loop .inv .1 .same, s .pre .4) in (
+    let turn = c .before .before .before .before in
+    let start = turn .before .before .before in
+    let xs = start .args .stream .now in
+    let i = turn .loop .i in
+    let place : i + 2 * (i / frameBytes) + 2 ≡ halfOf i = omega arith in
+    let word = c .before .before .half-at .ensures ∙ ap (halfAt xs) place in
+    let following = c .before .half-at2 .ensures ∙ ap (λ (n : ℕ). halfAt xs (n + 1)) place in
+    let read = c .read-indexed .ensures in
+    let inside : i < length (turn .loop .out) = omega (arith, turn .loop .inv .1 .same, start .pre .4) in (
       omega arith,
-      upto-more _ _ _ _ _ inside (byte-is xs (l .loop .i) _ _ _ hw hf hr) (l .loop .inv .1),
-      ap₂ _+_ (l .loop .inv .2) (unknown-is xs (l .loop .i) _ _ _ hw hf hr) ∙ sym (count-snoc (unknownAt xs) (l .loop .i)),
+      upto-more _ _ _ _ _ inside (byte-is xs i _ _ _ word following read) (turn .loop .inv .1),
+      ap₂ _+_ (turn .loop .inv .2) (unknown-is xs i _ _ _ word following read) ∙ sym (count-snoc (unknownAt xs) i),
     )
 
 same-length : tie.Need-same-length Inv-loop μ-loop
@@ -84,12 +95,12 @@ same-length c = c .before .loop .inv .1 .same
 returns : tie.Need-returns Inv-loop μ-loop
 unfolding unknownTally
 returns c =
-    let l = c .before in
-    let s = l .before .before .before in
-    let xs = s .args .stream .now in
-    let e : l .loop .i ≡ 2366 = omega arith in (
-      l .loop .inv .2 ∙ ap (countFrom (unknownAt xs) 0) e,
-      upto-all (readAt xs) (s .args .out .now) (l .loop .out) 2366 (s .pre .4) (rw e at (l .loop .inv .1)),
+    let turn = c .before in
+    let start = turn .before .before .before in
+    let xs = start .args .stream .now in
+    let all : turn .loop .i ≡ sectorSize = omega arith in (
+      turn .loop .inv .2 ∙ ap (countFrom (unknownAt xs) 0) all,
+      upto-all (readAt xs) (start .args .out .now) (turn .loop .out) sectorSize (start .pre .4) (rw all at (turn .loop .inv .1)),
     )
 
 pub read-bytes-spec : {M : Type 1} → statement M
@@ -102,9 +113,9 @@ read-bytes-spec =
     mul-k
     add-k
     add-k-2
-    half-requires
-    add-half
-    half-requires-2
+    half-at-requires
+    add-half-at
+    half-at-requires-2
     read-indexed-requires
     cast-out
     slice-write-out

@@ -20,13 +20,13 @@ add-t5 : tie.Need-add-t5
 add-t5 c = search needs
 
 returns : tie.Need-returns
-returns c = counted-clean (c .before .before .args .n) (c .before .before .args .o) (c .enum-told .given .1)
+returns c = counted-clean (c .before .before .args .tally) (c .before .before .args .outcome) (c .enum-told .given .1)
 
 returns-2 : tie.Need-returns-2
-returns-2 c = counted-corrected (c .before .before .before .args .n) (c .before .before .before .args .o) (c .before .enum-told2 .given .1)
+returns-2 c = counted-corrected (c .before .before .before .args .tally) (c .before .before .before .args .outcome) (c .before .enum-told2 .given .1)
 
 returns-3 : tie.Need-returns-3
-returns-3 c = counted-uncorrectable (c .before .before .before .args .n) (c .before .before .before .args .o) (c .before .enum-told3 .given .1)
+returns-3 c = counted-uncorrectable (c .before .before .before .args .tally) (c .before .before .before .args .outcome) (c .before .enum-told3 .given .1)
 
 pub count-word-spec : {M : Type 1} → statement M
 count-word-spec =

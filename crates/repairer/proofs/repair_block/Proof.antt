@@ -17,14 +17,14 @@ log-table-requires c κs = search needs
 multiples10-requires : tie.Need-multiples10-requires
 multiples10-requires c κs = search needs
 
-repair-rows-requires : tie.Need-repair-rows-requires
-repair-rows-requires c κs = search needs
+repair-words-requires : tie.Need-repair-words-requires
+repair-words-requires c κs = search needs
 
 multiples16-requires : tie.Need-multiples16-requires
 multiples16-requires c κs = search needs
 
-repair-columns-requires : tie.Need-repair-columns-requires
-repair-columns-requires c κs = search needs
+repair-words-requires-2 : tie.Need-repair-words-requires-2
+repair-words-requires-2 c κs = search needs
 
 judge-frames-requires : tie.Need-judge-frames-requires
 judge-frames-requires c κs = search needs
@@ -37,13 +37,18 @@ same-length c = search needs
 
 returns-3 : tie.Need-returns-3
 returns-3 c =
-    let j = c .before .before in
-    let k = j .before .before .before .before .before in
-    let r = k .before .before .before .before .before .before .before in
-    let f = r .before .before .before .before .before .before in
-    let a = f .before .before .before .before .args in
-    let v = stages (a .block .now) _ _ _ _ _ (r .repair-rows .ensures) (k .repair-columns .ensures) (j .judge-frames .ensures) in
-    frame-refused (a .block .now) (a .main .now) (f .before .if1 .left) (f .if2 .left) _ _ v (λ e. c .if3 .taken (c .before .repair-number .ensures ∙ e))
+    let judged = c .before .before in
+    let logs3 = judged .before .before .before in
+    let columns = logs3 .before .before in
+    let multiplied = columns .before .before .before .before in
+    let rows = multiplied .before .before .before in
+    let tables = rows .before .before .before .before in
+    let fits = tables .before .before in
+    let start = fits .before .before .before .before in
+    let xs = start .args .block .now in
+    let old = start .args .main .now in
+    let v = stages xs _ _ _ _ _ (rows .repair-words .ensures) (columns .repair-words2 .ensures) (judged .judge-frames .ensures) in
+    frame-refused xs old (fits .before .if1 .left) (fits .if2 .left) _ _ v (λ e. c .if3 .taken (c .before .repair-number .ensures ∙ e))
 
 hand-out-requires : tie.Need-hand-out-requires
 hand-out-requires c κs = search needs
@@ -56,14 +61,22 @@ same-length-3 c = search needs
 
 returns-4 : tie.Need-returns-4
 returns-4 c =
-    let j = c .before .before .before .before .before .before .before in
-    let k = j .before .before .before .before .before in
-    let r = k .before .before .before .before .before .before .before in
-    let f = r .before .before .before .before .before .before in
-    let a = f .before .before .before .before .args in
-    let v = stages (a .block .now) _ _ _ _ _ (r .repair-rows .ensures) (k .repair-columns .ensures) (j .judge-frames .ensures) in
-    handed-out (a .block .now) (a .main .now) (f .before .if1 .left) (f .if2 .left) _ _ v _ (sym (c .before .before .before .before .before .before .repair-number .ensures) ∙ c .before .before .before .before .before .if3 .left)
-    (c .before .before .hand-out .ensures)
+    let handed = c .before .before in
+    let passed = handed .before .before .before in
+    let numbered = passed .before in
+    let judged = numbered .before in
+    let logs3 = judged .before .before .before in
+    let columns = logs3 .before .before in
+    let multiplied = columns .before .before .before .before in
+    let rows = multiplied .before .before .before in
+    let tables = rows .before .before .before .before in
+    let fits = tables .before .before in
+    let start = fits .before .before .before .before in
+    let xs = start .args .block .now in
+    let old = start .args .main .now in
+    let v = stages xs _ _ _ _ _ (rows .repair-words .ensures) (columns .repair-words2 .ensures) (judged .judge-frames .ensures) in
+    let none = sym (numbered .repair-number .ensures) ∙ passed .if3 .left in
+    handed-out xs old (fits .before .if1 .left) (fits .if2 .left) _ _ v _ none (handed .hand-out .ensures)
 
 pub repair-block-spec : {M : Type 1} → statement M
 repair-block-spec =
@@ -73,9 +86,9 @@ repair-block-spec =
     returns-2
     log-table-requires
     multiples10-requires
-    repair-rows-requires
+    repair-words-requires
     multiples16-requires
-    repair-columns-requires
+    repair-words-requires-2
     judge-frames-requires
     repair-number-requires
     same-length

@@ -5,6 +5,7 @@ use lib.ListN.{length}
 use borrow.Author.Needs.{needs}
 use native.Mathlib.Omega.{arith}
 use Rattle.lists.proofs.Fill.{Upto, upto-none, upto-more}
+use Rattle.layout.specs.Lengths.{frameMainSize}
 use Rattle.scrambling.specs.Scrambling.{presetOf, register, scramblingByte}
 use Rattle.scrambling.proofs.Scrambled.{register-add}
 use Rattle.scrambling.proofs.first_bytes.Statement.{statement}
@@ -12,7 +13,7 @@ use Rattle.scrambling.proofs.first_bytes.Tie as tie
 
 abbrev Inv-loop : tie.InvT-loop
 Inv-loop n s₀ r₀ i₀ s r i =
-    (i ≤ 15) × (r < 32768) × (r ≡ register (presetOf n) (8 * i)) × (length s₀ ≡ 2048) × Upto (scramblingByte (presetOf n)) s₀ s i
+    (i ≤ 15) × (r < 0x8000) × (r ≡ register (presetOf n) (8 * i)) × (length s₀ ≡ frameMainSize) × Upto (scramblingByte (presetOf n)) s₀ s i
 
 abbrev μ-loop : tie.MeasureT-loop
 μ-loop n s₀ r₀ i₀ s r i = 15 - i
@@ -42,9 +43,10 @@ loop-less c = omega arith
 loop-again : tie.Need-loop-again Inv-loop μ-loop
 unfolding scramblingByte
 loop-again c =
-    let l = c .before .before .before .loop in
+    let turn = c .before .before .before in
+    let l = turn .loop in
     let inv = l .inv in
-    let p : ℕ = presetOf (c .before .before .before .before .before .args .n) in
+    let p : ℕ = presetOf (turn .before .before .args .number) in
     let e : 8 * (l .i + 1) ≡ 8 * l .i + 8 = omega arith in (
       omega arith,
       c .eight-shifts .ensures .1,

@@ -24,8 +24,8 @@ array-read-result c = search needs
 returns : tie.Need-returns
 unfolding presetOf
 returns c =
-    let e = ap (λ (t : List ℕ). getD t (c .before .args .n / 16 % 16) 0) (c .preset-values .ensures) in
-    (e, subst (λ (x : ℕ). x < 32768) (sym e) (preset-lt (c .before .args .n)))
+    let e = ap (λ (t : List ℕ). getD t (c .before .args .number / 16 % 16) 0) (c .preset-values .ensures) in
+    (e, subst (λ (x : ℕ). x < 0x8000) (sym e) (preset-lt (c .before .args .number)))
 
 pub preset-spec : {M : Type 1} → statement M
 preset-spec =

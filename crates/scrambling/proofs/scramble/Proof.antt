@@ -8,22 +8,23 @@ use borrow.Author.Needs.{needs}
 use native.Mathlib.Omega.{arith}
 use Rattle.lists.proofs.Fill.{Upto, upto-more, upto-all, getD-tabulate}
 use Rattle.field.specs.Field.{add}
+use Rattle.layout.specs.Lengths.{headSize, frameMainSize, edcPlace, frameSize}
 use Rattle.scrambling.specs.Scrambling.{presetOf, scramblingByte, scrambledAt}
 use Rattle.scrambling.proofs.Scrambled.{scrambled-main, scramble-start, scramble-end}
 use Rattle.scrambling.proofs.scramble.Statement.{statement}
 use Rattle.scrambling.proofs.scramble.Tie as tie
 
 abbrev Inv-loop : tie.InvT-loop
-Inv-loop n s g₀ q₀ g q = (12 ≤ q) × (q ≤ 2060) × (length g₀ ≡ 2064) × Upto (scrambledAt n g₀) g₀ g q
+Inv-loop n s g₀ q₀ g q = (headSize ≤ q) × (q ≤ edcPlace) × (length g₀ ≡ frameSize) × Upto (scrambledAt n g₀) g₀ g q
 
 abbrev μ-loop : tie.MeasureT-loop
-μ-loop n s g₀ q₀ g q = 2060 - q
+μ-loop n s g₀ q₀ g q = edcPlace - q
 
 scrambling-bytes-requires : tie.Need-scrambling-bytes-requires Inv-loop μ-loop
 scrambling-bytes-requires c κs = search needs
 
 loop-holds : tie.Need-loop-holds Inv-loop μ-loop
-loop-holds c = (omega arith, omega arith, search needs, scramble-start (c .before .args .n) (c .before .args .f))
+loop-holds c = (omega arith, omega arith, search needs, scramble-start (c .before .args .number) (c .before .args .frame))
 
 array-read-g : tie.Need-array-read-g Inv-loop μ-loop
 array-read-g c = omega arith
@@ -47,10 +48,10 @@ loop-again : tie.Need-loop-again Inv-loop μ-loop
 unfolding add
 loop-again c =
     let l = c .before .loop in
-    let n : ℕ = c .before .before .before .args .n in
-    let old = c .before .before .before .args .f in
-    let k : ℕ = l .q - 12 in
-    let e = ap (λ (x : List ℕ). getD x k 0) (c .before .before .scrambling-bytes .ensures) ∙ getD-tabulate (scramblingByte (presetOf n)) 2048 k (omega arith) in (
+    let n : ℕ = c .before .before .before .args .number in
+    let old = c .before .before .before .args .frame in
+    let k : ℕ = l .q - headSize in
+    let e = ap (λ (x : List ℕ). getD x k 0) (c .before .before .scrambling-bytes .ensures) ∙ getD-tabulate (scramblingByte (presetOf n)) frameMainSize k (omega arith) in (
       omega arith,
       omega arith,
       l .inv .2,
@@ -61,10 +62,10 @@ loop-again c =
 returns : tie.Need-returns Inv-loop μ-loop
 returns c =
     let l = c .before .loop in
-    let e : l .q ≡ 2060 = omega arith in
-    let n : ℕ = c .before .before .before .args .n in
-    let old = c .before .before .before .args .f in
-    upto-all (scrambledAt n old) old (l .g) 2064 (l .inv .2) (scramble-end n old (l .g) (rw e at (l .inv .3)))
+    let e : l .q ≡ edcPlace = omega arith in
+    let n : ℕ = c .before .before .before .args .number in
+    let old = c .before .before .before .args .frame in
+    upto-all (scrambledAt n old) old (l .g) frameSize (l .inv .2) (scramble-end n old (l .g) (rw e at (l .inv .3)))
 
 pub scramble-spec : {M : Type 1} → statement M
 scramble-spec =

@@ -6,6 +6,7 @@ use lib.ListN.{length}
 use borrow.Author.Needs.{needs}
 use native.Mathlib.Omega.{arith}
 use Rattle.field.specs.Field.{add}
+use Rattle.layout.specs.Lengths.{frameMainSize}
 use Rattle.lists.proofs.Fill.{Upto, upto-more, upto-all}
 use Rattle.scrambling.specs.Scrambling.{presetOf, scramblingByte}
 use Rattle.scrambling.proofs.Scrambled.{preset-lt}
@@ -14,10 +15,10 @@ use Rattle.scrambling.proofs.scrambling_bytes.Statement.{statement}
 use Rattle.scrambling.proofs.scrambling_bytes.Tie as tie
 
 abbrev Inv-loop : tie.InvT-loop
-Inv-loop n s₀ i₀ s i = (15 ≤ i) × (i ≤ 2048) × (length s₀ ≡ 2048) × Upto (scramblingByte (presetOf n)) s₀ s i
+Inv-loop n s₀ i₀ s i = (15 ≤ i) × (i ≤ frameMainSize) × (length s₀ ≡ frameMainSize) × Upto (scramblingByte (presetOf n)) s₀ s i
 
 abbrev μ-loop : tie.MeasureT-loop
-μ-loop n s₀ i₀ s i = 2048 - i
+μ-loop n s₀ i₀ s i = frameMainSize - i
 
 first-bytes-requires : tie.Need-first-bytes-requires Inv-loop μ-loop
 first-bytes-requires c κs = search needs
@@ -51,7 +52,7 @@ unfolding add
 loop-again c =
     let l = c .before .loop in
     let w = l .inv .3 in
-    let n : ℕ = c .before .before .before .args .n in
+    let n : ℕ = c .before .before .before .args .number in
     let p : ℕ = presetOf n in
     let i : ℕ = l .i - 15 in
     let e : i + 15 ≡ l .i = omega arith in
@@ -67,8 +68,8 @@ loop-again c =
 returns : tie.Need-returns Inv-loop μ-loop
 returns c =
     let l = c .before .loop in
-    let e : l .i ≡ 2048 = omega arith in
-    upto-all (scramblingByte (presetOf (c .before .before .before .args .n))) _ (l .s) 2048 (l .inv .2) (rw e at (l .inv .3))
+    let e : l .i ≡ frameMainSize = omega arith in
+    upto-all (scramblingByte (presetOf (c .before .before .before .args .number))) _ (l .s) frameMainSize (l .inv .2) (rw e at (l .inv .3))
 
 pub scrambling-bytes-spec : {M : Type 1} → statement M
 scrambling-bytes-spec =

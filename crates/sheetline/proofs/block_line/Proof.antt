@@ -33,7 +33,14 @@ same-length c = search needs
 returns : tie.Need-returns
 unfolding sheetLine
 returns c =
-    (then (then (then (c .before .before .before .before .before .before .before .before .before .before .before .before .before .before .before .put-text .ensures) (named (c .before .before .before .before .before .before .before .before .before .before .put-text2 .ensures) (c .before .before .before .before .before .before .before .before .before .before .before .before .before .before .before .before .before .before .hex-six .ensures))) (c .before .before .before .before .before .before .put-tallies .ensures .0)) (c .before .before .put-sums .ensures .0), omega arith)
+    let sums = c .before .before in
+    let tallies = sums .before .before .before .before in
+    let first = tallies .before .before .before .before in
+    let first-lent = first .before .before in
+    let text = first-lent .before .before .before in
+    let made = text .before .before .before in
+    let opening = then (text .put-text .ensures) (named (first .put-text2 .ensures) (made .hex-six .ensures)) in
+    (then (then opening (tallies .put-tallies .ensures .0)) (sums .put-sums .ensures .0), omega arith)
 
 pub block-line-spec : {M : Type 1} → statement M
 block-line-spec =

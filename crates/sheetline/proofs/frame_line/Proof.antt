@@ -30,7 +30,12 @@ same-length c = search needs
 returns : tie.Need-returns
 unfolding sheetLine
 returns c =
-    (then (then (c .before .before .before .before .before .before .before .before .before .before .before .before .put-field .ensures .0) (c .before .before .before .before .before .before .before .put-field2 .ensures .0)) (c .before .before .put-text .ensures), omega arith)
+    let ended = c .before .before in
+    let end-lent = ended .before .before in
+    let frame = end-lent .before .before .before in
+    let frame-lent = frame .before .before in
+    let number = frame-lent .before .before .before in
+    (then (then (number .put-field .ensures .0) (frame .put-field2 .ensures .0)) (ended .put-text .ensures), omega arith)
 
 pub frame-line-spec : {M : Type 1} → statement M
 frame-line-spec =

@@ -17,7 +17,10 @@ same-length c = search needs
 
 returns : tie.Need-returns
 returns c =
-    (then (c .before .before .before .before .before .before .put-text .ensures) (c .before .before .put-digits .ensures), omega (arith, digits-most 10 (c .before .before .before .before .before .before .before .before .before .before .args .n)))
+    let digits = c .before .before in
+    let text = digits .before .before .before .before in
+    let start = text .before .before .before .before in
+    (then (text .put-text .ensures) (digits .put-digits .ensures), omega (arith, digits-most 10 (start .args .n)))
 
 pub put-field-spec : {M : Type 1} → statement M
 put-field-spec = tie.close (tie.spec put-text-requires put-digits-requires same-length returns)

@@ -28,7 +28,12 @@ same-length c = search needs
 
 returns : tie.Need-returns
 returns c =
-    (then (then (c .before .before .before .before .before .before .before .before .before .before .before .before .put-field .ensures .0) (c .before .before .before .before .before .before .before .put-field2 .ensures .0)) (c .before .before .put-text .ensures), omega arith)
+    let ended = c .before .before in
+    let end-lent = ended .before .before in
+    let sync = end-lent .before .before .before in
+    let sync-lent = sync .before .before in
+    let unknown = sync-lent .before .before .before in
+    (then (then (unknown .put-field .ensures .0) (sync .put-field2 .ensures .0)) (ended .put-text .ensures), omega arith)
 
 pub put-sums-spec : {M : Type 1} → statement M
 put-sums-spec =

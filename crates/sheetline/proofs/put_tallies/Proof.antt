@@ -22,7 +22,10 @@ same-length c = search needs
 
 returns : tie.Need-returns
 returns c =
-    (then (c .before .before .before .before .before .before .before .put-tally .ensures .0) (c .before .before .put-tally2 .ensures .0), omega arith)
+    let columns = c .before .before in
+    let lent = columns .before .before in
+    let rows = lent .before .before .before in
+    (then (rows .put-tally .ensures .0) (columns .put-tally2 .ensures .0), omega arith)
 
 pub put-tallies-spec : {M : Type 1} → statement M
 put-tallies-spec =

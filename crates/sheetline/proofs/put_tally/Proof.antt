@@ -19,7 +19,10 @@ same-length c = search needs
 
 returns : tie.Need-returns
 returns c =
-    (then (c .before .before .before .before .before .before .before .put-field .ensures .0) (c .before .before .put-field2 .ensures .0), omega arith)
+    let second = c .before .before in
+    let lent = second .before .before in
+    let first = lent .before .before .before in
+    (then (first .put-field .ensures .0) (second .put-field2 .ensures .0), omega arith)
 
 pub put-tally-spec : {M : Type 1} → statement M
 put-tally-spec =

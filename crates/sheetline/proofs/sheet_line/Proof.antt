@@ -1,5 +1,5 @@
 -- `sheet_line` meets its contract. Assumes nothing.
-use mathlib.Core.Path.{sym, ap, _∙_}
+use mathlib.Core.Path.{sym, ap}
 use native.Mathlib.Omega.{arith}
 use Rattle.sheetline.specs.Line.{sheetLine, lastDigits}
 use Rattle.sheetline.proofs.Laying.{named, whole}
@@ -7,14 +7,14 @@ use borrow.Author.Needs.{needs}
 use Rattle.sheetline.proofs.sheet_line.Statement.{statement}
 use Rattle.sheetline.proofs.sheet_line.Tie as tie
 
-enum-known-r : tie.Need-enum-known-r
-enum-known-r c = search needs
+enum-known-answer : tie.Need-enum-known-answer
+enum-known-answer c = search needs
 
 block-line-requires : tie.Need-block-line-requires
 block-line-requires c κs = search needs
 
-enum-known-r-2 : tie.Need-enum-known-r-2
-enum-known-r-2 c = search needs
+enum-known-answer-2 : tie.Need-enum-known-answer-2
+enum-known-answer-2 c = search needs
 
 frame-line-requires : tie.Need-frame-line-requires
 frame-line-requires c κs = search needs
@@ -30,12 +30,12 @@ put-text-requires c κs = search needs
 
 returns : tie.Need-returns
 returns c =
-    let e = c .before .before .before .r .given .1 in
+    let e = c .before .before .before .answer .given .1 in
     whole (named (c .block-line .ensures .0) (sym (ap sheetLine e))) (omega arith)
 
 returns-2 : tie.Need-returns-2
 returns-2 c =
-    let e = c .before .before .before .r2 .given .1 in
+    let e = c .before .before .before .answer2 .given .1 in
     whole (named (c .frame-line .ensures .0) (sym (ap sheetLine e))) (omega arith)
 
 returns-3 : tie.Need-returns-3
@@ -48,9 +48,9 @@ pub sheet-line-spec : {M : Type 1} → statement M
 sheet-line-spec =
     tie.close
     (tie.spec
-    enum-known-r
+    enum-known-answer
     block-line-requires
-    enum-known-r-2
+    enum-known-answer-2
     frame-line-requires
     enum-told
     slice-aggregate-put-text

@@ -13,13 +13,19 @@ returns-2 : tie.Need-returns-2
 returns-2 c = search needs
 
 slice-aggregate-encode-block : tie.Need-slice-aggregate-encode-block
-slice-aggregate-encode-block c = let a = c .before .before .before .before .before .args in sym (length-take-le (a .n) (a .main .now) (omega arith))
+slice-aggregate-encode-block c =
+    let start = c .before .before .before .before in
+    let a = start .before .args in
+    sym (length-take-le (a .n) (a .main .now) (omega arith))
 
 slice-relend-prefix-encode-block : tie.Need-slice-relend-prefix-encode-block
 slice-relend-prefix-encode-block c = search needs
 
 slice-aggregate-encode-block-2 : tie.Need-slice-aggregate-encode-block-2
-slice-aggregate-encode-block-2 c = let a = c .before .before .before .before .before .before .args in sym (length-take-le (a .m) (a .out .now) (omega arith))
+slice-aggregate-encode-block-2 c =
+    let lent = c .before .before in
+    let a = lent .before .before .before .before .args in
+    sym (length-take-le (a .m) (a .out .now) (omega arith))
 
 encode-block-requires : tie.Need-encode-block-requires
 encode-block-requires c κs = search needs

@@ -11,23 +11,23 @@ agrees-with-requires c κs = search needs
 slot-of-requires : tie.Need-slot-of-requires
 slot-of-requires c κs = search needs
 
-mul-x : tie.Need-mul-x
-mul-x c = search needs
+mul-index : tie.Need-mul-index
+mul-index c = search needs
 
-element-write-x : tie.Need-element-write-x
-element-write-x c = search needs
+element-write-index : tie.Need-element-write-index
+element-write-index c = search needs
 
 returns : tie.Need-returns
 returns c =
     let a = c .before .before .before .args in
-    slot-taken (a .z) (a .n) (a .e) (a .x .now) _ (sym (c .before .before .agrees-with .ensures) ∙ c .before .if1 .taken) (c .slot-of .ensures .0)
+    slot-taken (a .zero) (a .number) (a .entry) (a .index .now) _ (sym (c .before .before .agrees-with .ensures) ∙ c .before .if1 .taken) (c .slot-of .ensures .0)
 
 returns-2 : tie.Need-returns-2
 returns-2 c =
     let a = c .before .before .args in
-    slot-left (a .z) (a .n) (a .e) (a .x .now) (sym (c .before .agrees-with .ensures) ∙ c .if1 .left)
+    slot-left (a .zero) (a .number) (a .entry) (a .index .now) (sym (c .before .agrees-with .ensures) ∙ c .if1 .left)
 
 pub put-one-spec : {M : Type 1} → statement M
 put-one-spec =
     tie.close
-    (tie.spec agrees-with-requires slot-of-requires mul-x element-write-x returns returns-2)
+    (tie.spec agrees-with-requires slot-of-requires mul-index element-write-index returns returns-2)

@@ -6,7 +6,7 @@ use native.Mathlib.Omega.{arith}
 use lib.ListN.{length, getD}
 use Rattle.annexg.specs.Read.{tableOf}
 use Rattle.annexg.proofs.Figure.{table-below}
-use Rattle.wordindex.specs.Index.{putFirst}
+use Rattle.wordindex.specs.Inner.{putFirst}
 use Rattle.wordindex.proofs.Index.{table-long}
 use Rattle.wordindex.proofs.IndexSteps.{none-put, more-put, all-put}
 use Rattle.wordindex.proofs.put_table.Statement.{statement}
@@ -20,24 +20,24 @@ below : (t : ℕ) (es : List ℕ) → (t < 2) × (es ≡ tableOf t) → (k : ℕ
 below t es lent k = rw (lent .1) (table-below t k)
 
 abbrev Inv-loop : tie.InvT-loop
-Inv-loop t es x₀ k₀ x k = (k ≤ length es) × (x ≡ putFirst t k x₀)
+Inv-loop table entries index₀ k₀ index k = (k ≤ length entries) × (index ≡ putFirst table k index₀)
 
 abbrev μ-loop : tie.MeasureT-loop
-μ-loop t es x₀ k₀ x k = length es - k
+μ-loop table entries index₀ k₀ index k = length entries - k
 
 loop-holds : tie.Need-loop-holds Inv-loop μ-loop
 loop-holds c = (omega arith, none-put _ _)
 
-mul-n : tie.Need-mul-n Inv-loop μ-loop
-mul-n c = omega (arith, c .before .before .before .pre .0)
+mul-number : tie.Need-mul-number Inv-loop μ-loop
+mul-number c = omega (arith, c .before .before .before .pre .0)
 
-cast-n : tie.Need-cast-n Inv-loop μ-loop
-cast-n c = let start = c .before .before .before in omega (arith, short (start .args .t) (start .args .es .now) (start .pre))
+cast-number : tie.Need-cast-number Inv-loop μ-loop
+cast-number c = let start = c .before .before .before in omega (arith, short (start .args .table) (start .args .entries .now) (start .pre))
 
-add-n : tie.Need-add-n Inv-loop μ-loop
-add-n c =
+add-number : tie.Need-add-number Inv-loop μ-loop
+add-number c =
     let start = c .before .before .before in
-    omega (arith, start .pre .0, short (start .args .t) (start .args .es .now) (start .pre))
+    omega (arith, start .pre .0, short (start .args .table) (start .args .entries .now) (start .pre))
 
 mul-put-entry : tie.Need-mul-put-entry Inv-loop μ-loop
 mul-put-entry c = omega arith
@@ -49,7 +49,7 @@ put-entry-requires : tie.Need-put-entry-requires Inv-loop μ-loop
 put-entry-requires c κs =
     let turn = c .before .before .before in
     let start = turn .before .before in
-    below (start .args .t) (start .args .es .now) (start .pre) (turn .loop .k)
+    below (start .args .table) (start .args .entries .now) (start .pre) (turn .loop .k)
 
 add-k : tie.Need-add-k Inv-loop μ-loop
 add-k c = omega arith
@@ -62,14 +62,14 @@ loop-again c =
     let turn = c .before .before .before .before in
     let start = turn .before .before in
     let a = start .args in
-    (omega arith, more-put (a .t) (a .es .now) (a .x .now) _ _ (turn .loop .k) (start .pre .1) (turn .loop .inv .1) (c .put-entry .ensures))
+    (omega arith, more-put (a .table) (a .entries .now) (a .index .now) _ _ (turn .loop .k) (start .pre .1) (turn .loop .inv .1) (c .put-entry .ensures))
 
 returns : tie.Need-returns Inv-loop μ-loop
 returns c =
     let turn = c .before in
     let start = turn .before .before in
     let a = start .args in
-    all-put (a .t) (a .es .now) (a .x .now) _ (turn .loop .k) (start .pre .1) (omega arith) (turn .loop .inv .1)
+    all-put (a .table) (a .entries .now) (a .index .now) _ (turn .loop .k) (start .pre .1) (omega arith) (turn .loop .inv .1)
 
 pub put-table-spec : {M : Type 1} → statement M
 put-table-spec =
@@ -78,9 +78,9 @@ put-table-spec =
     Inv-loop
     μ-loop
     loop-holds
-    mul-n
-    cast-n
-    add-n
+    mul-number
+    cast-number
+    add-number
     mul-put-entry
     shared-slice-read-put-entry
     put-entry-requires

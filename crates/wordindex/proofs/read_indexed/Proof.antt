@@ -4,8 +4,9 @@ use mathlib.Core.Bool.{Bool}
 use mathlib.Core.List.{List}
 use Prim.Native.Nat.{ℕ}
 use lib.ListN.{getD}
-use Rattle.annexg.specs.Read.{readFrom, readWord, readingNumber, bothZero}
-use Rattle.wordindex.specs.Index.{slotOf, tableNo, entryNo, wordIndex}
+use Rattle.annexg.specs.Inner.{readFrom}
+use Rattle.annexg.specs.Read.{readWord, readingNumber, bothZero}
+use Rattle.wordindex.specs.Inner.{slotOf, tableNo, entryNo, wordIndex}
 use Rattle.wordindex.proofs.Index.{index-reads}
 use borrow.Author.Needs.{needs}
 use Rattle.wordindex.proofs.read_indexed.Statement.{statement}
@@ -25,11 +26,11 @@ both-zero-requires c κs = search needs
 slot-of-requires : tie.Need-slot-of-requires
 slot-of-requires c κs = search needs
 
-mul-n : tie.Need-mul-n
-mul-n c = search needs
+mul-number : tie.Need-mul-number
+mul-number c = search needs
 
-element-copy-out-n : tie.Need-element-copy-out-n
-element-copy-out-n c = search needs
+element-copy-out-number : tie.Need-element-copy-out-number
+element-copy-out-number c = search needs
 
 cast-search-from : tie.Need-cast-search-from
 cast-search-from c = search needs
@@ -44,7 +45,7 @@ returns : tie.Need-returns
 returns c =
     let slot = c .before .before in
     let start = slot .before .before in
-    from-slot (start .args .w) (start .args .f) _ _ _ _ (start .pre .2) (slot .before .both-zero .ensures) (slot .slot-of .ensures .0) (c .search-from .ensures)
+    from-slot (start .args .word) (start .args .following) _ _ _ _ (start .pre .2) (slot .before .both-zero .ensures) (slot .slot-of .ensures .0) (c .search-from .ensures)
 
 pub read-indexed-spec : {M : Type 1} → statement M
 read-indexed-spec =
@@ -52,8 +53,8 @@ read-indexed-spec =
     (tie.spec
     both-zero-requires
     slot-of-requires
-    mul-n
-    element-copy-out-n
+    mul-number
+    element-copy-out-number
     cast-search-from
     cast-search-from-2
     search-from-requires

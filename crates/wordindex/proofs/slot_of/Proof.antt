@@ -1,6 +1,6 @@
 -- `wordindex::slot_of` meets its contract. Assumes nothing.
 use native.Mathlib.Omega.{arith}
-use Rattle.wordindex.specs.Index.{placeOf}
+use Rattle.wordindex.specs.Inner.{placeOf}
 use borrow.Author.Needs.{needs}
 use Rattle.wordindex.proofs.slot_of.Statement.{statement}
 use Rattle.wordindex.proofs.slot_of.Tie as tie

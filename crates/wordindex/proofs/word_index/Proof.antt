@@ -1,7 +1,7 @@
 -- `wordindex::word_index` meets its contract. Assumes nothing.
 use mathlib.Core.Path.{ap, _∙_}
 use borrow.Author.Needs.{needs}
-use Rattle.wordindex.specs.Index.{putAll, wordIndex}
+use Rattle.wordindex.specs.Inner.{putAll, wordIndex}
 use Rattle.wordindex.proofs.word_index.Statement.{statement}
 use Rattle.wordindex.proofs.word_index.Tie as tie
 

@@ -1,11 +1,13 @@
+-- `writer::close` meets its contract: it is refused, or the closing code is laid.
+-- Assumes nothing.
 use mathlib.Core.Path.{sym, ap, subst, _∙_}
 use native.Mathlib.Omega.{arith}
-use Rattle.levels.specs.Level.{Room}
-use Rattle.levels.specs.declared.Run.{Run}
-use Rattle.writer.proofs.Sound.{closing-opens, closing-refused, closing-done, closing-small, near, sound-room}
-use Rattle.writer.proofs.Told.{done, refused}
-use Rattle.streams.specs.Frames.{closingOf}
 use borrow.Author.Needs.{needs}
+use Rattle.levels.specs.Inner.{Room}
+use Rattle.levels.specs.declared.Running.{Running}
+use Rattle.streams.specs.Frames.{closingOf}
+use Rattle.writer.proofs.Numbers.{done-number, refused-number}
+use Rattle.writer.proofs.Sound.{closing-opens, closing-refused, closing-done, closing-small, near, sound-room}
 use Rattle.writer.proofs.close.Statement.{statement}
 use Rattle.writer.proofs.close.Tie as tie
 
@@ -17,25 +19,42 @@ enum-told c = search needs
 
 returns : tie.Need-returns
 returns c =
-    let a = c .before .before .before .args in
-    (c .before .closing-refusal .ensures, closing-refused (a .w) (a .out .now) _ (c .before .closing-refusal .ensures) (refused (c .before .closing-refusal .result) (c .match .keys2)))
+    let asked = c .before in
+    let a = asked .before .before .args in
+    let number = asked .closing-refusal .ensures in
+    let refused = refused-number (asked .closing-refusal .result) (c .match .keys2) in
+    (number, closing-refused (a .current) (a .out .now) _ number refused)
 
-run-of-requires : tie.Need-run-of-requires
-run-of-requires c κs =
-    let w = c .before .before .before .before .args .w in
-    near w (closing-opens w _ (sym (c .before .before .closing-refusal .ensures) ∙ done (c .before .before .closing-refusal .result) (c .before .match .keys1)) .is)
+running-of-requires : tie.Need-running-of-requires
+running-of-requires c κs =
+    let told = c .before in
+    let asked = told .before in
+    let w = asked .before .before .args .current in
+    let done = done-number (asked .closing-refusal .result) (told .match .keys1) in
+    near w (closing-opens w _ (sym (asked .closing-refusal .ensures) ∙ done) .is)
 
 closing-requires : tie.Need-closing-requires
 closing-requires c κs =
-    let w = c .before .before .before .before .before .before .args .w in
-    let o = closing-opens w _ (sym (c .before .before .before .before .closing-refusal .ensures) ∙ done (c .before .before .before .before .closing-refusal .result) (c .before .before .before .match .keys1)) in
-    (subst (λ (z : Run). Room z 32) (sym (c .before .run-of .ensures)) (sound-room w (o .is) 32 (omega arith)), o .to-is)
+    let running = c .before in
+    let told = running .before .before in
+    let asked = told .before in
+    let w = asked .before .before .args .current in
+    let done = done-number (asked .closing-refusal .result) (told .match .keys1) in
+    let opens = closing-opens w _ (sym (asked .closing-refusal .ensures) ∙ done) in
+    let room = sound-room w (opens .is) 32 (omega arith) in
+    (subst (λ (z : Running). Room z 32) (sym (running .running-of .ensures)) room, opens .to-is)
 
 record-of-requires : tie.Need-record-of-requires
 record-of-requires c κs =
-    let w = c .before .before .before .before .before .before .before .before .before .args .w in
-    let o = closing-opens w _ (sym (c .before .before .before .before .before .before .before .closing-refusal .ensures) ∙ done (c .before .before .before .before .before .before .before .closing-refusal .result) (c .before .before .before .before .before .before .match .keys1)) in
-    closing-small w _ (o .is) (c .before .before .closing .ensures .0 ∙ ap (λ (z : Run). closingOf z .run) (c .before .before .before .before .run-of .ensures))
+    let laid = c .before .before in
+    let running = laid .before .before in
+    let told = running .before .before in
+    let asked = told .before in
+    let w = asked .before .before .args .current in
+    let done = done-number (asked .closing-refusal .result) (told .match .keys1) in
+    let opens = closing-opens w _ (sym (asked .closing-refusal .ensures) ∙ done) in
+    let from = ap (λ (z : Running). closingOf z .running) (running .running-of .ensures) in
+    closing-small w _ (opens .is) (laid .closing .ensures .0 ∙ from)
 
 same-length : tie.Need-same-length
 same-length c = search needs
@@ -43,14 +62,16 @@ same-length c = search needs
 returns-2 : tie.Need-returns-2
 returns-2 c =
     let laid = c .before .before .before in
-    let run = laid .before .before in
-    let told = run .before .before in
-    let found = told .before in
-    let start = found .before .before in
-    let a = start .args in
-    let z = done (found .closing-refusal .result) (told .match .keys1) in
-    let d = closing-done (a .w) (a .out .now) _ (found .closing-refusal .ensures) z _ (run .run-of .ensures) _ _ (laid .closing .ensures) in
-    (sym z ∙ found .closing-refusal .ensures, (c .record-of .ensures ∙ d .0, d .1))
+    let running = laid .before .before in
+    let told = running .before .before in
+    let asked = told .before in
+    let a = asked .before .before .args in
+    let number = asked .closing-refusal .ensures in
+    let done = done-number (asked .closing-refusal .result) (told .match .keys1) in
+    let left =
+    closing-done (a .current) (a .out .now) _ number done _ (running .running-of .ensures) _ _
+    (laid .closing .ensures) in
+    (sym done ∙ number, (c .record-of .ensures ∙ left .0, left .1))
 
 pub close-spec : {M : Type 1} → statement M
 close-spec =
@@ -59,7 +80,7 @@ close-spec =
     closing-refusal-requires
     enum-told
     returns
-    run-of-requires
+    running-of-requires
     closing-requires
     record-of-requires
     same-length

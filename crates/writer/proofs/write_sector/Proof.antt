@@ -1,11 +1,13 @@
+-- `writer::write_sector` meets its contract: it is refused, or the sector is laid.
+-- Assumes nothing.
 use mathlib.Core.Path.{sym, ap, subst, _∙_}
 use native.Mathlib.Omega.{arith}
-use Rattle.levels.specs.declared.Run.{Run}
+use borrow.Author.Needs.{needs}
+use Rattle.levels.specs.declared.Running.{Running}
 use Rattle.streams.specs.Frames.{sectorOf}
 use Rattle.writer.specs.Inner.{SectorBegins}
+use Rattle.writer.proofs.Numbers.{done-number, refused-number}
 use Rattle.writer.proofs.Sound.{sector-opens, sector-begins, sector-refused, sector-done, sector-small, near}
-use Rattle.writer.proofs.Told.{done, refused}
-use borrow.Author.Needs.{needs}
 use Rattle.writer.proofs.write_sector.Statement.{statement}
 use Rattle.writer.proofs.write_sector.Tie as tie
 
@@ -17,32 +19,52 @@ enum-told c = search needs
 
 returns : tie.Need-returns
 returns c =
-    let a = c .before .before .before .before .args in (
-      c .before .sector-refusal .ensures,
-      sector-refused (a .w) (a .bytes .now) (a .out .now) _ (c .before .sector-refusal .ensures) (refused (c .before .sector-refusal .result) (c .match .keys2)),
-    )
+    let asked = c .before in
+    let a = asked .before .before .before .args in
+    let number = asked .sector-refusal .ensures in
+    let refused = refused-number (asked .sector-refusal .result) (c .match .keys2) in
+    (number, sector-refused (a .current) (a .bytes .now) (a .out .now) _ number refused)
 
-run-of-requires : tie.Need-run-of-requires
-run-of-requires c κs =
-    let w = c .before .before .before .before .before .args .w in
-    near w (sector-opens w _ _ (sym (c .before .before .sector-refusal .ensures) ∙ done (c .before .before .sector-refusal .result) (c .before .match .keys1)) .is)
+running-of-requires : tie.Need-running-of-requires
+running-of-requires c κs =
+    let told = c .before in
+    let asked = told .before in
+    let w = asked .before .before .before .args .current in
+    let done = done-number (asked .sector-refusal .result) (told .match .keys1) in
+    near w (sector-opens w _ _ (sym (asked .sector-refusal .ensures) ∙ done) .is)
 
 sector-requires : tie.Need-sector-requires
 sector-requires c κs =
-    let a = c .before .before .before .before .before .before .before .args in
-    let o = sector-opens (a .w) _ _ (sym (c .before .before .before .before .sector-refusal .ensures) ∙ done (c .before .before .before .before .sector-refusal .result) (c .before .before .before .match .keys1)) in
-    subst (λ (z : Run). SectorBegins z (a .bytes .now) (a .out .now)) (sym (c .before .run-of .ensures)) (sector-begins (a .w) (a .bytes .now) (a .out .now) o)
+    let running = c .before in
+    let told = running .before .before in
+    let asked = told .before in
+    let a = asked .before .before .before .args in
+    let done = done-number (asked .sector-refusal .result) (told .match .keys1) in
+    let opens = sector-opens (a .current) _ _ (sym (asked .sector-refusal .ensures) ∙ done) in
+    subst (λ (z : Running). SectorBegins z (a .bytes .now) (a .out .now)) (sym (running .running-of .ensures))
+    (sector-begins (a .current) (a .bytes .now) (a .out .now) opens)
 
 add-record-of : tie.Need-add-record-of
 add-record-of c =
-    let o = sector-opens (c .before .before .before .before .before .before .before .before .before .before .before .args .w) _ _ (sym (c .before .before .before .before .before .before .before .before .sector-refusal .ensures) ∙ done (c .before .before .before .before .before .before .before .before .sector-refusal .result) (c .before .before .before .before .before .before .before .match .keys1)) in
-    omega (arith, o .more)
+    let laid = c .before .before .before in
+    let running = laid .before .before in
+    let told = running .before .before in
+    let asked = told .before in
+    let w = asked .before .before .before .args .current in
+    let done = done-number (asked .sector-refusal .result) (told .match .keys1) in
+    omega (arith, sector-opens w _ _ (sym (asked .sector-refusal .ensures) ∙ done) .more)
 
 record-of-requires : tie.Need-record-of-requires
 record-of-requires c κs =
-    let a = c .before .before .before .before .before .before .before .before .before .before .before .args in
-    let o = sector-opens (a .w) _ _ (sym (c .before .before .before .before .before .before .before .before .sector-refusal .ensures) ∙ done (c .before .before .before .before .before .before .before .before .sector-refusal .result) (c .before .before .before .before .before .before .before .match .keys1)) in
-    sector-small (a .w) (a .bytes .now) _ (o .is) (c .before .before .before .sector .ensures .0 ∙ ap (λ (z : Run). sectorOf z (a .bytes .now) .run) (c .before .before .before .before .before .run-of .ensures))
+    let laid = c .before .before .before in
+    let running = laid .before .before in
+    let told = running .before .before in
+    let asked = told .before in
+    let a = asked .before .before .before .args in
+    let done = done-number (asked .sector-refusal .result) (told .match .keys1) in
+    let opens = sector-opens (a .current) _ _ (sym (asked .sector-refusal .ensures) ∙ done) in
+    let from = ap (λ (z : Running). sectorOf z (a .bytes .now) .running) (running .running-of .ensures) in
+    sector-small (a .current) (a .bytes .now) _ (opens .is) (laid .sector .ensures .0 ∙ from)
 
 same-length : tie.Need-same-length
 same-length c = search needs
@@ -50,14 +72,16 @@ same-length c = search needs
 returns-2 : tie.Need-returns-2
 returns-2 c =
     let laid = c .before .before .before .before in
-    let run = laid .before .before in
-    let told = run .before .before in
-    let found = told .before in
-    let start = found .before .before .before in
-    let a = start .args in
-    let z = done (found .sector-refusal .result) (told .match .keys1) in
-    let d = sector-done (a .w) (a .bytes .now) (a .out .now) _ (found .sector-refusal .ensures) z _ (run .run-of .ensures) _ _ (laid .sector .ensures) in
-    (sym z ∙ found .sector-refusal .ensures, (c .record-of .ensures ∙ d .0, d .1))
+    let running = laid .before .before in
+    let told = running .before .before in
+    let asked = told .before in
+    let a = asked .before .before .before .args in
+    let number = asked .sector-refusal .ensures in
+    let done = done-number (asked .sector-refusal .result) (told .match .keys1) in
+    let left =
+    sector-done (a .current) (a .bytes .now) (a .out .now) _ number done _ (running .running-of .ensures) _ _
+    (laid .sector .ensures) in
+    (sym done ∙ number, (c .record-of .ensures ∙ left .0, left .1))
 
 pub write-sector-spec : {M : Type 1} → statement M
 write-sector-spec =
@@ -66,7 +90,7 @@ write-sector-spec =
     sector-refusal-requires
     enum-told
     returns
-    run-of-requires
+    running-of-requires
     sector-requires
     add-record-of
     record-of-requires

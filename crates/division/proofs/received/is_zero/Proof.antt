@@ -4,10 +4,10 @@ use Rattle.division.proofs.received.is_zero.Statement.{statement}
 use Rattle.division.proofs.received.is_zero.Tie as tie
 
 returns : tie.Need-returns
-returns c = rw (ne-eqb (c .before .before .args .x .high) 0 (c .if1 .taken))
+returns c = rw (ne-eqb (c .before .before .args .left .high) 0 (c .if1 .taken))
 
 returns-2 : tie.Need-returns-2
-returns-2 c = rw (eq-eqb (c .before .before .before .args .x .high) 0 (c .before .if1 .left))
+returns-2 c = rw (eq-eqb (c .before .before .before .args .left .high) 0 (c .before .if1 .left))
 
 pub is-zero-spec : {M : Type 1} → statement M
 is-zero-spec = tie.close (tie.spec returns returns-2)

@@ -8,8 +8,7 @@ use lib.Seq.{length-take-le, take-all}
 use Rattle.lists.specs.Bytes.{Bytes}
 use Rattle.lists.proofs.Bytes.{bytes-of}
 use Rattle.field.specs.Field.{add}
-use Rattle.codes.specs.Parity.{parity}
-use Rattle.multiples.specs.Multiples.{high, low}
+use Rattle.multiples.specs.Inner.{high, low}
 use Rattle.division.proofs.Words.{left-high, left-low}
 use borrow.Author.Needs.{needs}
 use Rattle.division.proofs.received.remainder_of.Statement.{statement}
@@ -20,39 +19,36 @@ sub-n c = search needs
 
 slice-aggregate-divide : tie.Need-slice-aggregate-divide
 slice-aggregate-divide c =
-    let s = c .before .before in
-    sym (length-take-le (length (s .args .w .now) - s .args .p) (s .args .w .now) (omega arith))
+    let start = c .before .before in
+    sym (length-take-le (length (start .args .word .now) - start .args .p) (start .args .word .now) (omega arith))
 
 divide-requires : tie.Need-divide-requires
 divide-requires c κs = search needs
 
-sub-q : tie.Need-sub-q
-sub-q c = search needs
+sub-add-last : tie.Need-sub-add-last
+sub-add-last c = search needs
 
-part-q-start : tie.Need-part-q-start
-part-q-start c = search needs
+part-add-last-start : tie.Need-part-add-last-start
+part-add-last-start c = search needs
 
-part-q-end : tie.Need-part-q-end
-part-q-end c = search needs
+part-add-last-end : tie.Need-part-add-last-end
+part-add-last-end c = search needs
 
-eight-requires : tie.Need-eight-requires
-eight-requires c κs = search needs
-
-eight-requires-2 : tie.Need-eight-requires-2
-eight-requires-2 c κs = search needs
+add-last-requires : tie.Need-add-last-requires
+add-last-requires c κs = search needs
 
 returns : tie.Need-returns
-unfolding add high low
 returns c =
-    let s = c .before .before .before .before .before .before .before .before in
-    let w : List ℕ = s .args .w .now in
-    let b : Bytes w = bytes-of w (λ i l. omega (arith, c .before .before .before .before .before .before .before .shared-slice-known .given i)) in
-    let e = c .before .before .before .before .before .divide .ensures in
-    let n : ℕ = length w - s .args .p in
-    let d : (c .before .before .before .before .before .divide .result .high ≡ high (parity (s .args .p) (take n w))) × (c .before .before .before .before .before .divide .result .low ≡ low (parity (s .args .p) (take n w))) = e in
-    let q : take (length w - n) (drop n w) ≡ drop n w = take-all (length w - n) (drop n w) (omega (arith, length-drop n w)) in (
-      ap₂ add (d .0) (c .before .before .before .eight .ensures ∙ ap high q) ∙ sym (left-high (s .args .p) w b (s .pre .1)),
-      ap₂ add (d .1) (c .before .eight2 .ensures ∙ ap low q) ∙ sym (left-low (s .args .p) w b (s .pre .1)),
+    let divided = c .before .before in
+    let known = divided .before .before in
+    let start = known .before in
+    let w : List ℕ = start .args .word .now in
+    let p : ℕ = start .args .p in
+    let n : ℕ = length w - p in
+    let bytes : Bytes w = bytes-of w (λ i l. omega (arith, known .shared-slice-known .given i)) in
+    let last : take (length w - n) (drop n w) ≡ drop n w = take-all (length w - n) (drop n w) (omega (arith, length-drop n w)) in (
+      c .add-last .ensures .0 ∙ ap₂ add (divided .divide .ensures .0) (ap high last) ∙ sym (left-high p w bytes (start .pre .1)),
+      c .add-last .ensures .1 ∙ ap₂ add (divided .divide .ensures .1) (ap low last) ∙ sym (left-low p w bytes (start .pre .1)),
     )
 
 pub remainder-of-spec : {M : Type 1} → statement M
@@ -62,9 +58,8 @@ remainder-of-spec =
     sub-n
     slice-aggregate-divide
     divide-requires
-    sub-q
-    part-q-start
-    part-q-end
-    eight-requires
-    eight-requires-2
+    sub-add-last
+    part-add-last-start
+    part-add-last-end
+    add-last-requires
     returns)

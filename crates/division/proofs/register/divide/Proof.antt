@@ -8,10 +8,10 @@ use Rattle.division.proofs.register.divide.Statement.{statement}
 use Rattle.division.proofs.register.divide.Tie as tie
 
 abbrev Inv-loop : tie.InvT-loop
-Inv-loop m d p high₀ low₀ i₀ high low i = (i ≤ length d) × Divided p d i high low
+Inv-loop table d p high₀ low₀ i₀ high low i = (i ≤ length d) × Divided p d i high low
 
 abbrev μ-loop : tie.MeasureT-loop
-μ-loop m d p high₀ low₀ i₀ high low i = length d - i
+μ-loop table d p high₀ low₀ i₀ high low i = length d - i
 
 loop-holds : tie.Need-loop-holds Inv-loop μ-loop
 loop-holds c = (omega arith, divided-none (c .before .args .p) (c .before .args .d .now))
@@ -51,11 +51,13 @@ loop-less c = omega arith
 
 loop-again : tie.Need-loop-again Inv-loop μ-loop
 loop-again c =
-    let s = c .before .before .before .before .before .before .before .before .before in
-    let l = c .before .before .before .before .before .before .before .loop in
+    let back4 = c .before .before .before .before in
+    let turn = back4 .before .before .before in
+    let s = turn .before .before in
+    let l = turn .loop in
     let e = c .before .before .before .before .entry in (
       omega arith,
-      divided-more (s .args .p) (s .args .m .now) (s .args .d .now) (l .i) (l .high) (l .low) (getD (s .args .d .now) (l .i) 0) (e .result) (c .before .before .moved-high .result) (c .moved-low .result)
+      divided-more (s .args .p) (s .args .table .now) (s .args .d .now) (l .i) (l .high) (l .low) (getD (s .args .d .now) (l .i) 0) (e .result) (c .before .before .moved-high .result) (c .moved-low .result)
           (s .pre .0) (s .pre .1) (omega arith) refl (e .ensures) (c .before .before .moved-high .ensures) (c .moved-low .ensures) (l .inv .1),
     )
 

@@ -7,7 +7,7 @@ use mir.Syntax.{w8, w64}
 use lib.Bits.{bitXor}
 use borrow.Author.Needs.{needs}
 use Rattle.field.specs.Field.{add}
-use Rattle.multiples.specs.Multiples.{top}
+use Rattle.multiples.specs.Inner.{top}
 use Rattle.division.proofs.Step.{byte-index}
 use Rattle.division.proofs.register.entry.Statement.{statement}
 use Rattle.division.proofs.register.entry.Tie as tie

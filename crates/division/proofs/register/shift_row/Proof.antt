@@ -8,10 +8,10 @@ use Rattle.division.proofs.register.shift_row.Statement.{statement}
 use Rattle.division.proofs.register.shift_row.Tie as tie
 
 abbrev Inv-loop : tie.InvT-loop
-Inv-loop m row regs₀ j₀ regs j = (j ≤ length row) × Shifting row regs₀ regs j
+Inv-loop table row regs₀ j₀ regs j = (j ≤ length row) × Shifting row regs₀ regs j
 
 abbrev μ-loop : tie.MeasureT-loop
-μ-loop m row regs₀ j₀ regs j = length row - j
+μ-loop table row regs₀ j₀ regs j = length row - j
 
 loop-holds : tie.Need-loop-holds Inv-loop μ-loop
 loop-holds c = (omega arith, shifting-none (c .before .before .args .row .now) (c .before .before .args .regs .now))
@@ -72,7 +72,10 @@ mul-regs-2 c = omega arith
 
 slice-write-regs-2 : tie.Need-slice-write-regs-2 Inv-loop μ-loop
 slice-write-regs-2 c =
-    let l = c .before .before .before .before .before .before .before .before .before .loop in
+    let back4 = c .before .before .before .before in
+    let back8 = back4 .before .before .before .before in
+    let turn = back8 .before in
+    let l = turn .loop in
     omega (arith, length-set (l .regs) (2 * l .j) (c .before .before .moved-high .result))
 
 add-j : tie.Need-add-j Inv-loop μ-loop
@@ -83,12 +86,15 @@ loop-less c = omega arith
 
 loop-again : tie.Need-loop-again Inv-loop μ-loop
 loop-again c =
-    let s = c .before .before .before .before .before .before .before .before .before .before .before .before in
-    let l = c .before .before .before .before .before .before .before .before .before .loop in
+    let back4 = c .before .before .before .before in
+    let at-slice-known2 = back4 .before .before .before in
+    let turn = at-slice-known2 .before .before in
+    let s = turn .before .before .before in
+    let l = turn .loop in
     let e = c .before .before .before .before .entry in
-    let fits = c .before .before .before .before .before .before .before .slice-known2 .given in (
+    let fits = at-slice-known2 .slice-known2 .given in (
       omega arith,
-      shifting-more (s .args .m .now) (s .args .row .now) (s .args .regs .now) (l .regs) (l .j) (getD (l .regs) (2 * l .j) 0) (getD (l .regs) (2 * l .j + 1) 0) (e .result)
+      shifting-more (s .args .table .now) (s .args .row .now) (s .args .regs .now) (l .regs) (l .j) (getD (l .regs) (2 * l .j) 0) (getD (l .regs) (2 * l .j + 1) 0) (e .result)
           (c .before .before .moved-high .result) (c .moved-low .result) (s .pre .0) (s .pre .1) (omega arith) (omega (arith, fits (2 * l .j))) (omega (arith, fits (2 * l .j + 1))) refl refl (e .ensures) (c .before .before .moved-high .ensures) (c .moved-low .ensures) (l .inv .1),
     )
 

@@ -1,32 +1,38 @@
 -- `codewords::chamanzil_correct_row` meets its contract. Assumes nothing.
 use mathlib.Core.List.{List}
-use mathlib.Core.Path.{_∙_, ap}
+use mathlib.Core.Path.{sym, ap, _∙_}
 use Prim.Native.Nat.{ℕ}
 use native.Mathlib.Omega.{arith}
+use lib.ListN.{replicate, length-replicate}
+use Rattle.bytes.proofs.Copies.{put-all}
+use Rattle.layout.specs.Lengths.{rowSize, innerSize}
 use Rattle.codes.specs.Nearest.{nearest, outcomeOf}
 use Rattle.ffi.specs.Answers.{outcomeNumber}
-use borrow.Author.Needs.{needs}
 use Rattle.ffi.proofs.Lengths.{repair-refused, repaired}
+use borrow.Author.Needs.{needs}
 use Rattle.ffi.proofs.codewords.chamanzil_correct_row.Statement.{statement}
 use Rattle.ffi.proofs.codewords.chamanzil_correct_row.Tie as tie
 
 returns : tie.Need-returns
-returns c = repair-refused 182 10 5 (c .before .before .args .row .now) (c .if1 .taken)
+returns c = repair-refused rowSize innerSize 5 (c .before .before .args .row .now) (c .if1 .taken)
 
-slice-aggregate-copy : tie.Need-slice-aggregate-copy
-slice-aggregate-copy c = search needs
+slice-aggregate-put : tie.Need-slice-aggregate-put
+slice-aggregate-put c = search needs
 
-copy-requires : tie.Need-copy-requires
-copy-requires c κs = search needs
+put-requires : tie.Need-put-requires
+put-requires c κs = search needs
 
 correct-row-requires : tie.Need-correct-row-requires
 correct-row-requires c κs = search needs
 
-slice-aggregate-copy-2 : tie.Need-slice-aggregate-copy-2
-slice-aggregate-copy-2 c = search needs
+slice-aggregate-put-2 : tie.Need-slice-aggregate-put-2
+slice-aggregate-put-2 c = search needs
 
-copy-requires-2 : tie.Need-copy-requires-2
-copy-requires-2 c κs = omega (arith, slice-aggregate-copy-2 (c .before), c .before .before .before .before .before .before .before .before .if1 .left)
+put-requires-2 : tie.Need-put-requires-2
+put-requires-2 c κs =
+    let made = c .before .before .before in
+    let copied = made .before .before in
+    omega (arith, slice-aggregate-put-2 c, copied .before .before .before .if1 .left)
 
 outcome-number-requires : tie.Need-outcome-number-requires
 outcome-number-requires c κs = search needs
@@ -36,23 +42,28 @@ same-length c = search needs
 
 returns-2 : tie.Need-returns-2
 returns-2 c =
-    let w = c .before .before .before .before .before .before .before .before .before .before .before .before .before .before .args .row .now in
-    let copied = c .before .before .before .before .before .before .before .before .before .copy .ensures in
-    let made = c .before .before .before .before .before .before .before .correct-row .ensures in
-    repaired 182 10 5 _ w _ (c .before .before .before .before .before .before .before .before .before .before .before .before .if1 .left)
-    (c .outcome-number .ensures ∙ ap outcomeNumber (made .1) ∙ ap (λ (v : List ℕ). outcomeNumber (outcomeOf 10 5 v)) copied)
-    (c .before .before .before .copy2 .ensures ∙ made .0 ∙ ap (nearest 10 5) copied)
+    let put = c .before .before .before in
+    let near = put .before in
+    let made = near .before .before .before in
+    let copied = made .before .before in
+    let fit = copied .before .before .before in
+    let w = fit .before .before .args .row .now in
+    let lent = put-all w (replicate rowSize 0) _ (copied .put .ensures) (fit .if1 .left ∙ sym (length-replicate {A = ℕ} rowSize 0)) in
+    let held = put-all (made .correct-row .result .bytes) w _ (put .put2 .ensures) (omega (arith, slice-aggregate-put-2 near, fit .if1 .left)) in
+    repaired rowSize innerSize 5 _ w _ (fit .if1 .left)
+    (c .outcome-number .ensures ∙ ap outcomeNumber (made .correct-row .ensures .1) ∙ ap (λ (v : List ℕ). outcomeNumber (outcomeOf innerSize 5 v)) lent)
+    (held ∙ made .correct-row .ensures .0 ∙ ap (nearest innerSize 5) lent)
 
 pub chamanzil-correct-row-spec : {M : Type 1} → statement M
 chamanzil-correct-row-spec =
     tie.close
     (tie.spec
     returns
-    slice-aggregate-copy
-    copy-requires
+    slice-aggregate-put
+    put-requires
     correct-row-requires
-    slice-aggregate-copy-2
-    copy-requires-2
+    slice-aggregate-put-2
+    put-requires-2
     outcome-number-requires
     same-length
     returns-2)

@@ -1,9 +1,9 @@
 -- `readers::chamanzil_read_block` meets its contract. Assumes nothing.
 use mathlib.Core.Path.{ap, _∙_}
 use lib.ListN.{length}
-use Rattle.roundtrip.specs.BlockReader.{blockReadAnswer, blockReadBlock, blockReadMain, blockReadRefusal}
-use Rattle.roundtrip.specs.declared.BlockRead.{BlockRead}
-use Rattle.ffi.specs.Readers.{blockReport}
+use Rattle.blockreader.specs.BlockReader.{blockReadAnswer, blockReadBlock, blockReadMain, blockReadRefusal}
+use Rattle.blockreader.specs.declared.BlockRead.{BlockRead}
+use Rattle.ffi.specs.Readers.{blockReportSize, blockReport}
 use Rattle.ffi.proofs.Reports.{number-refused, left-as-was, number-is, filled}
 use borrow.Author.Needs.{needs}
 use Rattle.ffi.proofs.readers.chamanzil_read_block.Statement.{statement}
@@ -11,15 +11,19 @@ use Rattle.ffi.proofs.readers.chamanzil_read_block.Tie as tie
 
 returns : tie.Need-returns
 returns c =
-    let s = c .before .before .before .before .before .args in
-    let q = s .report .now in
+    let known = c .before .before in
+    let a = known .before .before .before .args in
+    let xs = a .stream .now in
+    let k = length (a .block .now) in
+    let n = length (a .main .now) in
+    let q = a .report .now in
     let h = c .if1 .taken in (
-      number-refused 8 (blockReadRefusal (s .stream .now) (length (s .block .now)) (length (s .main .now))) q h,
+      number-refused blockReportSize (blockReadRefusal xs k n) q h,
       (
-        left-as-was 8 q (blockReadBlock (s .stream .now) (s .block .now) (length (s .main .now))) (s .block .now) h,
+        left-as-was blockReportSize q (blockReadBlock xs (a .block .now) n) (a .block .now) h,
         (
-          left-as-was 8 q (blockReadMain (s .stream .now) (length (s .block .now)) (s .main .now)) (s .main .now) h,
-          left-as-was 8 q (blockReport (blockReadAnswer (s .stream .now) (length (s .block .now)) (length (s .main .now))) q) q h,
+          left-as-was blockReportSize q (blockReadMain xs k (a .main .now)) (a .main .now) h,
+          left-as-was blockReportSize q (blockReport (blockReadAnswer xs k n) q) q h,
         ),
       ),
     )
@@ -47,16 +51,25 @@ same-length-3 c = search needs
 
 returns-2 : tie.Need-returns-2
 returns-2 c =
-    let s = c .before .before .before .before .before .before .before .before .before .before .before .before .before .before .before .before .before .args in
-    let q = s .report .now in
-    let l = c .before .before .before .before .before .before .before .before .before .before .before .before .if1 .left in
-    let e = c .before .before .before .before .before .before .before .before .before .read-block .ensures in (
-      number-is 8 (blockReadRefusal (s .stream .now) (length (s .block .now)) (length (s .main .now))) _ q l (c .block-read-number .ensures ∙ e .1 .0),
+    let laid = c .before .before .before in
+    let kept = laid .before .before .before in
+    let read = kept .before .before .before in
+    let fit = read .before .before .before in
+    let known = fit .before .before in
+    let a = known .before .before .before .args in
+    let xs = a .stream .now in
+    let k = length (a .block .now) in
+    let n = length (a .main .now) in
+    let q = a .report .now in
+    let l = fit .if1 .left in
+    let e = read .read-block .ensures in
+    let told = laid .lay-block .ensures ∙ ap (λ (r : BlockRead). blockReport r q) (e .0) in (
+      number-is blockReportSize (blockReadRefusal xs k n) _ q l (c .block-read-number .ensures ∙ e .1 .0),
       (
-        filled 8 q (blockReadBlock (s .stream .now) (s .block .now) (length (s .main .now))) (s .block .now) _ l (e .1 .1 .1 .0),
+        filled blockReportSize q (blockReadBlock xs (a .block .now) n) (a .block .now) _ l (e .1 .1 .1 .0),
         (
-          filled 8 q (blockReadMain (s .stream .now) (length (s .block .now)) (s .main .now)) (s .main .now) _ l (e .1 .1 .1 .1),
-          filled 8 q (blockReport (blockReadAnswer (s .stream .now) (length (s .block .now)) (length (s .main .now))) q) q _ l (c .before .before .before .lay-block .ensures ∙ ap (λ (a : BlockRead). blockReport a q) (e .0)),
+          filled blockReportSize q (blockReadMain xs k (a .main .now)) (a .main .now) _ l (e .1 .1 .1 .1),
+          filled blockReportSize q (blockReport (blockReadAnswer xs k n) q) q _ l told,
         ),
       ),
     )

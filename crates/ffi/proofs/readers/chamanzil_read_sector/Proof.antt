@@ -3,7 +3,7 @@ use mathlib.Core.Path.{ap, _∙_}
 use lib.ListN.{length}
 use Rattle.reader.specs.Sector.{sectorAnswer, sectorAfter, sectorReadRefusal}
 use Rattle.reader.specs.declared.SectorRead.{SectorRead}
-use Rattle.ffi.specs.Readers.{sectorReport}
+use Rattle.ffi.specs.Readers.{sectorReportSize, sectorReport}
 use Rattle.ffi.proofs.Reports.{number-refused, left-as-was, number-is, filled}
 use borrow.Author.Needs.{needs}
 use Rattle.ffi.proofs.readers.chamanzil_read_sector.Statement.{statement}
@@ -11,13 +11,14 @@ use Rattle.ffi.proofs.readers.chamanzil_read_sector.Tie as tie
 
 returns : tie.Need-returns
 returns c =
-    let s = c .before .before .before .before .args in
-    let q = s .report .now in
+    let a = c .before .before .before .before .args in
+    let xs = a .stream .now in
+    let q = a .report .now in
     let h = c .if1 .taken in (
-      number-refused 2 (sectorReadRefusal (s .stream .now) (length (s .out .now))) q h,
+      number-refused sectorReportSize (sectorReadRefusal xs (length (a .out .now))) q h,
       (
-        left-as-was 2 q (sectorAfter (s .stream .now) (s .out .now)) (s .out .now) h,
-        left-as-was 2 q (sectorReport (sectorAnswer (s .stream .now) (length (s .out .now))) q) q h,
+        left-as-was sectorReportSize q (sectorAfter xs (a .out .now)) (a .out .now) h,
+        left-as-was sectorReportSize q (sectorReport (sectorAnswer xs (length (a .out .now))) q) q h,
       ),
     )
 
@@ -27,8 +28,8 @@ read-sector-requires c κs = search needs
 lay-sector-requires : tie.Need-lay-sector-requires
 lay-sector-requires c κs = search needs
 
-sector-number-requires : tie.Need-sector-number-requires
-sector-number-requires c κs = search needs
+sector-read-number-requires : tie.Need-sector-read-number-requires
+sector-read-number-requires c κs = search needs
 
 cast-result : tie.Need-cast-result
 cast-result c = search needs
@@ -41,14 +42,19 @@ same-length-2 c = search needs
 
 returns-2 : tie.Need-returns-2
 returns-2 c =
-    let s = c .before .before .before .before .before .before .before .before .before .before .before .before .before .args in
-    let q = s .report .now in
-    let l = c .before .before .before .before .before .before .before .before .before .if1 .left in
-    let e = c .before .before .before .before .before .before .before .read-sector .ensures in (
-      number-is 2 (sectorReadRefusal (s .stream .now) (length (s .out .now))) _ q l (c .sector-number .ensures ∙ e .1 .0),
+    let laid = c .before .before .before in
+    let read = laid .before .before .before .before in
+    let fit = read .before .before in
+    let a = fit .before .before .before .before .args in
+    let xs = a .stream .now in
+    let q = a .report .now in
+    let l = fit .if1 .left in
+    let e = read .read-sector .ensures in
+    let told = laid .lay-sector .ensures ∙ ap (λ (r : SectorRead). sectorReport r q) (e .0) in (
+      number-is sectorReportSize (sectorReadRefusal xs (length (a .out .now))) _ q l (c .sector-read-number .ensures ∙ e .1 .0),
       (
-        filled 2 q (sectorAfter (s .stream .now) (s .out .now)) (s .out .now) _ l (e .1 .1),
-        filled 2 q (sectorReport (sectorAnswer (s .stream .now) (length (s .out .now))) q) q _ l (c .before .before .before .lay-sector .ensures ∙ ap (λ (a : SectorRead). sectorReport a q) (e .0)),
+        filled sectorReportSize q (sectorAfter xs (a .out .now)) (a .out .now) _ l (e .1 .1),
+        filled sectorReportSize q (sectorReport (sectorAnswer xs (length (a .out .now))) q) q _ l told,
       ),
     )
 
@@ -59,7 +65,7 @@ chamanzil-read-sector-spec =
     returns
     read-sector-requires
     lay-sector-requires
-    sector-number-requires
+    sector-read-number-requires
     cast-result
     same-length
     same-length-2

@@ -3,7 +3,7 @@ use mathlib.Core.Path.{ap, _∙_}
 use lib.ListN.{length}
 use Rattle.repairer.specs.Answer.{repairAnswer, blockAfter, mainAfter, repairRefusal}
 use Rattle.repairer.specs.declared.Repaired.{Repaired}
-use Rattle.ffi.specs.Readers.{repairReport}
+use Rattle.ffi.specs.Readers.{repairReportSize, repairReport}
 use Rattle.ffi.proofs.Reports.{number-refused, left-as-was, number-is, filled}
 use borrow.Author.Needs.{needs}
 use Rattle.ffi.proofs.readers.chamanzil_repair_block.Statement.{statement}
@@ -11,15 +11,17 @@ use Rattle.ffi.proofs.readers.chamanzil_repair_block.Tie as tie
 
 returns : tie.Need-returns
 returns c =
-    let s = c .before .before .before .before .args in
-    let q = s .report .now in
+    let a = c .before .before .before .before .args in
+    let xs = a .block .now in
+    let n = length (a .main .now) in
+    let q = a .report .now in
     let h = c .if1 .taken in (
-      number-refused 6 (repairRefusal (s .block .now) (length (s .main .now))) q h,
+      number-refused repairReportSize (repairRefusal xs n) q h,
       (
-        left-as-was 6 q (blockAfter (s .block .now) (length (s .main .now))) (s .block .now) h,
+        left-as-was repairReportSize q (blockAfter xs n) xs h,
         (
-          left-as-was 6 q (mainAfter (s .block .now) (s .main .now)) (s .main .now) h,
-          left-as-was 6 q (repairReport (repairAnswer (s .block .now) (length (s .main .now))) q) q h,
+          left-as-was repairReportSize q (mainAfter xs (a .main .now)) (a .main .now) h,
+          left-as-was repairReportSize q (repairReport (repairAnswer xs n) q) q h,
         ),
       ),
     )
@@ -47,16 +49,23 @@ same-length-3 c = search needs
 
 returns-2 : tie.Need-returns-2
 returns-2 c =
-    let s = c .before .before .before .before .before .before .before .before .before .before .before .before .before .before .before .before .args in
-    let q = s .report .now in
-    let l = c .before .before .before .before .before .before .before .before .before .before .before .before .if1 .left in
-    let e = c .before .before .before .before .before .before .before .before .before .repair-block .ensures in (
-      number-is 6 (repairRefusal (s .block .now) (length (s .main .now))) _ q l (c .repair-number .ensures ∙ e .1 .0),
+    let laid = c .before .before .before in
+    let kept = laid .before .before .before in
+    let repaired = kept .before .before .before in
+    let fit = repaired .before .before .before in
+    let a = fit .before .before .before .before .args in
+    let xs = a .block .now in
+    let n = length (a .main .now) in
+    let q = a .report .now in
+    let l = fit .if1 .left in
+    let e = repaired .repair-block .ensures in
+    let told = laid .lay-repair .ensures ∙ ap (λ (r : Repaired). repairReport r q) (e .0) in (
+      number-is repairReportSize (repairRefusal xs n) _ q l (c .repair-number .ensures ∙ e .1 .0),
       (
-        filled 6 q (blockAfter (s .block .now) (length (s .main .now))) (s .block .now) _ l (e .1 .1 .1 .0),
+        filled repairReportSize q (blockAfter xs n) xs _ l (e .1 .1 .1 .0),
         (
-          filled 6 q (mainAfter (s .block .now) (s .main .now)) (s .main .now) _ l (e .1 .1 .1 .1),
-          filled 6 q (repairReport (repairAnswer (s .block .now) (length (s .main .now))) q) q _ l (c .before .before .before .lay-repair .ensures ∙ ap (λ (a : Repaired). repairReport a q) (e .0)),
+          filled repairReportSize q (mainAfter xs (a .main .now)) (a .main .now) _ l (e .1 .1 .1 .1),
+          filled repairReportSize q (repairReport (repairAnswer xs n) q) q _ l told,
         ),
       ),
     )

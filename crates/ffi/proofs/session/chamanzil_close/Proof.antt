@@ -41,7 +41,7 @@ use denote.Triple.Table.{entered, cited}
 use denote.Triple.Walked.{Stays, gave-ref, gave-slice, walkOf, AllGo, goes-gave-ref, goes-gave-slice, Walks, ends-at, walked, walk-meets}
 use Rattle.writer.specs.declared.Answer.{Answer}
 use Rattle.writer.specs.declared.Record.{Record}
-use Rattle.writer.specs.Answers.{number, closingRefusal, closingNext, closingOut}
+use Rattle.writer.specs.Answers.{answerNumber, closingRefusal, closingNext, closingOut}
 use Rattle.writer.proofs.Record as R
 use Rattle.writer.proofs.Answer as E
 use Rattle.writer.proofs.Answer.Laws as E′
@@ -107,8 +107,8 @@ module _ {M : Type 1} (𝓤 : URA M) (H : Heap 𝓤) (A : Atoms 𝓤) (W : Given
         -- [what `console::close` asks; _6; …]
         calls-at ! fm (Core 𝓤 H A at-mem run) known to-core (and-then ! (load ! (from ! (stop !)) (look ! 5 refl)) (and-then ! (load ! (from ! (stop !)) (look ! 1 refl)) (no-more !))) (λ v.
         use1 W (later (some (λ (r : Answer). ((‵ (flft κ q) ⊛ ‵ (flft κ′ q′) ⊛ ‵ ftrue) ⊛ ‵ (E.the-row .own r (v ∷ []))) ⊛ raw (ensured 𝓤 H A core.ended (core.clauses 𝓤 H A at-mem run) (κ, (κ′, tt)) a tt r)))) (id⊢ 𝓤 _) $ await ! tt $ pick ! (λ r.
-        split ! $ move ! (1 ∷ []) $ use1 W (some (λ (ws : Record × (List ℕ × Unit {0})). ‵ (lasts core.ended (κ, (κ′, tt)) a ws) ⊛ (raw (fact 𝓤 (number r ≡ closingRefusal h (length ys))) ⊛ (raw (fact 𝓤 (ws .0 ≡ closingNext h (length ys))) ⊛ raw (fact 𝓤 (ws .1 .0 ≡ closingOut h ys)))))) (id⊢ 𝓤 _) $ pick ! (λ ws.
-        split ! $ move ! (1 ∷ []) $ heard3 ! (number r ≡ closingRefusal h (length ys)) (ws .0 ≡ closingNext h (length ys)) (ws .1 .0 ≡ closingOut h ys) (λ answered kept laid. fsplit ! $ move ! (1 ∷ []) $ fsplit ! $ fsplit ! $ move ! (1 ∷ []) $ feqL ! (λ l.
+        split ! $ move ! (1 ∷ []) $ use1 W (some (λ (ws : Record × (List ℕ × Unit {0})). ‵ (lasts core.ended (κ, (κ′, tt)) a ws) ⊛ (raw (fact 𝓤 (answerNumber r ≡ closingRefusal h (length ys))) ⊛ (raw (fact 𝓤 (ws .0 ≡ closingNext h (length ys))) ⊛ raw (fact 𝓤 (ws .1 .0 ≡ closingOut h ys)))))) (id⊢ 𝓤 _) $ pick ! (λ ws.
+        split ! $ move ! (1 ∷ []) $ heard3 ! (answerNumber r ≡ closingRefusal h (length ys)) (ws .0 ≡ closingNext h (length ys)) (ws .1 .0 ≡ closingOut h ys) (λ answered kept laid. fsplit ! $ move ! (1 ∷ []) $ fsplit ! $ fsplit ! $ move ! (1 ∷ []) $ feqL ! (λ l.
         move ! (3 ∷ []) $ split ! $ move ! (1 ∷ []) $ peeks ! E.the-row (Is E.the-row) (shows 𝓤 H A E.the-row) r (v ∷ []) (λ is.
         -- [what the answer owns; the tokens; the buffer's last list; …; the record's last value; _6; …; _5; …; _4; …; _3; …; _2; …; _1; …; room for _0; …]
         land ! (from ! (stop !)) (init ! 11 refl (EL.lawful E.the-type E′.the-laws 𝓤 H A W tt .typed r _ is .0)) $
@@ -120,7 +120,7 @@ module _ {M : Type 1} (𝓤 : URA M) (H : Heap 𝓤) (A : Atoms 𝓤) (W : Given
         rewrite ! 16 (λ (y : Val). ‵ (fat fullShare (tyInt w32) l₀ 0 y)) (numbered .0) refl $ returns ! (look ! 16 refl) $
         forget ! 4 refl $ forget ! 6 refl $ forget ! 8 refl $ forget ! 10 refl $ forget ! 12 refl $ forget ! 14 refl $ forget ! 16 refl $
         move ! (16 ∷ 17 ∷ []) $ free1 ! $ move ! (14 ∷ 15 ∷ []) $ free1 ! $ move ! (12 ∷ 13 ∷ []) $ free1 ! $ move ! (10 ∷ 11 ∷ []) $ free1 ! $ move ! (8 ∷ 9 ∷ []) $ free1 ! $ move ! (6 ∷ 7 ∷ []) $ free1 ! $ move ! (4 ∷ 5 ∷ []) $ free1 ! $ free0 ! $
-        keep ! (0 ∷ 1 ∷ 3 ∷ []) $ by ! (exits (number r) (ws .0) (ws .1 .0) (numbered .1) answered kept laid l))))))))))))))))
+        keep ! (0 ∷ 1 ∷ 3 ∷ []) $ by ! (exits (answerNumber r) (ws .0) (ws .1 .0) (numbered .1) answered kept laid l))))))))))))))))
 
 module _ {M : Type 1} (𝓤 : URA M) (H : Heap 𝓤) (A : Atoms 𝓤) (W : Given 𝓤 H A) (at-mem : Memory → SProp 𝓤) (run : Routine → Fun 𝓤) where
   walks : (C : Calls 𝓤 H) (Λ : Loops 𝓤 H) → FmC 𝓤 H (W .laws) C → Triple 𝓤 (C #console·close) (Core 𝓤 H A at-mem run) → Triple 𝓤 (C #console·answer-number) (Number 𝓤 H A at-mem run)

@@ -42,7 +42,7 @@ use denote.Triple.Walked.{Stays, gave-ref, gave-slice, stay-dropped, walkOf, All
 use denote.Exit.{yes}
 use Rattle.writer.specs.declared.Answer.{Answer}
 use Rattle.writer.specs.declared.Record.{Record}
-use Rattle.writer.specs.Answers.{number, sectorRefusal, sectorNext, sectorOut}
+use Rattle.writer.specs.Answers.{answerNumber, sectorRefusal, sectorNext, sectorOut}
 use Rattle.writer.proofs.Record as R
 use Rattle.writer.proofs.Answer as E
 use Rattle.writer.proofs.Answer.Laws as E′
@@ -111,8 +111,8 @@ module _ {M : Type 1} (𝓤 : URA M) (H : Heap 𝓤) (A : Atoms 𝓤) (W : Given
         -- [what `console::write` asks; _7; …]
         calls-at ! fm (Core 𝓤 H A at-mem run) known to-core (and-then ! (load ! (from ! (stop !)) (look ! 5 refl)) (and-then ! (load ! (from ! (stop !)) (look ! 11 refl)) (and-then ! (load ! (from ! (stop !)) (look ! 1 refl)) (no-more !)))) (λ v.
         use1 W (later (some (λ (r : Answer). ((‵ (flft κ q) ⊛ ‵ (flft κ₁ q₁) ⊛ ‵ (flft κ′ q′) ⊛ ‵ ftrue) ⊛ ‵ (E.the-row .own r (v ∷ []))) ⊛ raw (ensured 𝓤 H A core.ended (core.clauses 𝓤 H A at-mem run) (κ, (κ₁, (κ′, tt))) a tt r)))) (id⊢ 𝓤 _) $ await ! tt $ pick ! (λ r.
-        split ! $ move ! (1 ∷ []) $ use1 W (some (λ (ws : Record × (Unit {0} × (List ℕ × Unit {0}))). ‵ (lasts core.ended (κ, (κ₁, (κ′, tt))) a ws) ⊛ (raw (fact 𝓤 (number r ≡ sectorRefusal h (length xs) (length ys))) ⊛ (raw (fact 𝓤 (ws .0 ≡ sectorNext h xs (length ys))) ⊛ raw (fact 𝓤 (ws .1 .1 .0 ≡ sectorOut h xs ys)))))) (id⊢ 𝓤 _) $ pick ! (λ ws.
-        split ! $ move ! (1 ∷ []) $ heard3 ! (number r ≡ sectorRefusal h (length xs) (length ys)) (ws .0 ≡ sectorNext h xs (length ys)) (ws .1 .1 .0 ≡ sectorOut h xs ys) (λ answered kept laid. fsplit ! $ move ! (1 ∷ []) $ fsplit ! $ move ! (1 ∷ []) $ fsplit ! $ fsplit ! $ move ! (1 ∷ []) $ feqL ! (λ l.
+        split ! $ move ! (1 ∷ []) $ use1 W (some (λ (ws : Record × (Unit {0} × (List ℕ × Unit {0}))). ‵ (lasts core.ended (κ, (κ₁, (κ′, tt))) a ws) ⊛ (raw (fact 𝓤 (answerNumber r ≡ sectorRefusal h (length xs) (length ys))) ⊛ (raw (fact 𝓤 (ws .0 ≡ sectorNext h xs (length ys))) ⊛ raw (fact 𝓤 (ws .1 .1 .0 ≡ sectorOut h xs ys)))))) (id⊢ 𝓤 _) $ pick ! (λ ws.
+        split ! $ move ! (1 ∷ []) $ heard3 ! (answerNumber r ≡ sectorRefusal h (length xs) (length ys)) (ws .0 ≡ sectorNext h xs (length ys)) (ws .1 .1 .0 ≡ sectorOut h xs ys) (λ answered kept laid. fsplit ! $ move ! (1 ∷ []) $ fsplit ! $ move ! (1 ∷ []) $ fsplit ! $ fsplit ! $ move ! (1 ∷ []) $ feqL ! (λ l.
         move ! (4 ∷ []) $ split ! $ move ! (1 ∷ []) $ peeks ! E.the-row (Is E.the-row) (shows 𝓤 H A E.the-row) r (v ∷ []) (λ is.
         -- [what the answer owns; the tokens; the buffer's last list; …; …; the record's last value; _7; …; _6; …; _5; …; _4; …; _3; …; _2; …; _1; …; room for _0; …]
         land ! (from ! (stop !)) (init ! 12 refl (EL.lawful E.the-type E′.the-laws 𝓤 H A W tt .typed r _ is .0)) $
@@ -124,7 +124,7 @@ module _ {M : Type 1} (𝓤 : URA M) (H : Heap 𝓤) (A : Atoms 𝓤) (W : Given
         rewrite ! 19 (λ (y : Val). ‵ (fat fullShare (tyInt w32) l₀ 0 y)) (numbered .0) refl $ returns ! (look ! 19 refl) $
         forget ! 5 refl $ forget ! 7 refl $ forget ! 9 refl $ forget ! 11 refl $ forget ! 13 refl $ forget ! 15 refl $ forget ! 17 refl $ forget ! 19 refl $
         move ! (19 ∷ 20 ∷ []) $ free1 ! $ move ! (17 ∷ 18 ∷ []) $ free1 ! $ move ! (15 ∷ 16 ∷ []) $ free1 ! $ move ! (13 ∷ 14 ∷ []) $ free1 ! $ move ! (11 ∷ 12 ∷ []) $ free1 ! $ move ! (9 ∷ 10 ∷ []) $ free1 ! $ move ! (7 ∷ 8 ∷ []) $ free1 ! $ move ! (5 ∷ 6 ∷ []) $ free1 ! $ free0 ! $
-        keep ! (0 ∷ 1 ∷ 4 ∷ []) $ by ! (exits (number r) (ws .0) (ws .1 .1 .0) (numbered .1) answered kept laid l)))))))))))))))))
+        keep ! (0 ∷ 1 ∷ 4 ∷ []) $ by ! (exits (answerNumber r) (ws .0) (ws .1 .1 .0) (numbered .1) answered kept laid l)))))))))))))))))
 
 module _ {M : Type 1} (𝓤 : URA M) (H : Heap 𝓤) (A : Atoms 𝓤) (W : Given 𝓤 H A) (at-mem : Memory → SProp 𝓤) (run : Routine → Fun 𝓤) where
   walks : (C : Calls 𝓤 H) (Λ : Loops 𝓤 H) → FmC 𝓤 H (W .laws) C → Triple 𝓤 (C #console·write) (Core 𝓤 H A at-mem run) → Triple 𝓤 (C #console·answer-number) (Number 𝓤 H A at-mem run)

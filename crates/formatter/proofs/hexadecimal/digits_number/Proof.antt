@@ -1,6 +1,5 @@
 -- `hexadecimal::digits_number` meets its contract. Assumes nothing.
-use mathlib.Core.Path.{_≡_, refl, sym, ap, _∙_}
-use Prim.Native.Nat.{ℕ, _+_, _-_, _*_, _<_, _≤_}
+use Prim.Native.Nat.{_-_}
 use lib.ListN.{length}
 use Rattle.formatter.proofs.Digits.{Read, read-none, read-more, read-stop, read-all, five-digits}
 use native.Mathlib.Omega.{arith}
@@ -25,8 +24,10 @@ digit-value-requires c κs = search needs
 
 returns : tie.Need-returns Inv-loop μ-loop
 returns c =
-    let l = c .before .before .before .before .loop in
-    read-stop (c .before .before .before .before .before .before .args .digits .now) (l .i) (l .n) (c .before .digit-value .result) (omega arith) (c .before .digit-value .ensures) (omega arith) (l .inv)
+    let turn = c .before .before .before .before in
+    let l = turn .loop in
+    let digit = c .before .digit-value in
+    read-stop (turn .before .before .args .digits .now) (l .i) (l .n) (digit .result) (omega arith) (digit .ensures) (omega arith) (l .inv)
 
 mul-n : tie.Need-mul-n Inv-loop μ-loop
 mul-n c =
@@ -46,8 +47,10 @@ loop-less c = omega arith
 
 loop-again : tie.Need-loop-again Inv-loop μ-loop
 loop-again c =
-    let l = c .before .before .before .before .loop in
-    read-more (c .before .before .before .before .before .before .args .digits .now) (l .i) (l .n) (c .before .digit-value .result) (omega arith) (c .before .digit-value .ensures) (omega arith) (l .inv)
+    let turn = c .before .before .before .before in
+    let l = turn .loop in
+    let digit = c .before .digit-value in
+    read-more (turn .before .before .args .digits .now) (l .i) (l .n) (digit .result) (omega arith) (digit .ensures) (omega arith) (l .inv)
 
 returns-2 : tie.Need-returns-2 Inv-loop μ-loop
 returns-2 c = read-all (c .before .before .before .args .digits .now) (c .before .loop .i) (c .before .loop .n) (omega arith) (c .before .loop .inv)

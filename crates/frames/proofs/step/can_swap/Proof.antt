@@ -1,9 +1,9 @@
--- `frames::step::can_swap` meets its contract.
+-- `frames::step::can_swap` meets its contract: a case for each test.
 -- Assumes nothing.
 use mathlib.Core.Path.{sym, _∙_}
 use borrow.Author.Tests.{not-true, not-false}
-use Rattle.frames.proofs.Choices.{swap-small, swap-state, swap-first, swap-second}
 use borrow.Author.Needs.{needs}
+use Rattle.frames.proofs.Choices.{swap-small, swap-state, swap-first, swap-second}
 use Rattle.frames.proofs.step.can_swap.Statement.{statement}
 use Rattle.frames.proofs.step.can_swap.Tie as tie
 
@@ -14,7 +14,9 @@ swap-state-requires : tie.Need-swap-state-requires
 swap-state-requires c κs = search needs
 
 returns-2 : tie.Need-returns-2
-returns-2 c = swap-state _ _ _ (c .before .before .if1 .left) (sym (c .before .swap-state .ensures) ∙ not-true _ (c .if2 .taken))
+returns-2 c =
+    let state = c .before in
+    swap-state _ _ _ (state .before .if1 .left) (sym (state .swap-state .ensures) ∙ not-true _ (c .if2 .taken))
 
 word-at-requires : tie.Need-word-at-requires
 word-at-requires c κs = search needs
@@ -24,8 +26,12 @@ joins-requires c κs = search needs
 
 returns-3 : tie.Need-returns-3
 returns-3 c =
-    swap-first _ _ _ (c .before .before .before .before .before .if1 .left) (sym (c .before .before .before .before .swap-state .ensures) ∙ not-false _ (c .before .before .before .if2 .left)) _ (c .before .before .word-at .ensures)
-    (sym (c .before .joins .ensures) ∙ not-true _ (c .if3 .taken))
+    let first = c .before in
+    let word = first .before in
+    let swaps = word .before in
+    let state = swaps .before in
+    swap-first _ _ _ (state .before .if1 .left) (sym (state .swap-state .ensures) ∙ not-false _ (swaps .if2 .left)) _
+    (word .word-at .ensures) (sym (first .joins .ensures) ∙ not-true _ (c .if3 .taken))
 
 word-at-requires-2 : tie.Need-word-at-requires-2
 word-at-requires-2 c κs = search needs
@@ -35,9 +41,16 @@ joins-requires-2 c κs = search needs
 
 returns-4 : tie.Need-returns-4
 returns-4 c =
+    let second = c .before in
+    let joined = second .before in
+    let first = joined .before in
+    let word = first .before in
+    let swaps = word .before in
+    let state = swaps .before in
     c .joins2 .ensures
-    ∙ swap-second _ _ _ (c .before .before .before .before .before .before .before .if1 .left) (sym (c .before .before .before .before .before .before .swap-state .ensures) ∙ not-false _ (c .before .before .before .before .before .if2 .left)) _ (c .before .before .before .before .word-at .ensures)
-    (sym (c .before .before .before .joins .ensures) ∙ not-false _ (c .before .before .if3 .left)) _ (c .before .word-at2 .ensures)
+    ∙ swap-second _ _ _ (state .before .if1 .left) (sym (state .swap-state .ensures) ∙ not-false _ (swaps .if2 .left)) _
+    (word .word-at .ensures) (sym (first .joins .ensures) ∙ not-false _ (joined .if3 .left)) _
+    (second .word-at2 .ensures)
 
 pub can-swap-spec : {M : Type 1} → statement M
 can-swap-spec =

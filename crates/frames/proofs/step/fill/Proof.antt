@@ -1,103 +1,90 @@
 -- `frames::step::fill` meets its contract.
 -- Assumes nothing.
-use Prim.Native.Nat.{_≤_, _-_}
-use mathlib.Core.Path.{_≡_}
 use mathlib.Core.Bool.{true, false}
 use native.Mathlib.Omega.{arith}
-use lib.ListN.{length}
-use Rattle.lists.proofs.Bytes.{bytes-of}
-use Rattle.frames.proofs.Ended.{room-le}
+use borrow.Author.Needs.{needs}
+use Rattle.layout.specs.Lengths.{frameBits}
+use Rattle.levels.proofs.Steps.{room-le}
 use Rattle.frames.proofs.Words.{synced}
-use Rattle.frames.proofs.Filling.{Filled, filled-none, filled-use, filled-more, filled-all, shows-opened, ready}
+use Rattle.frames.proofs.Filling.{begins-in, shows-opened, stepped-whole}
 use Rattle.frames.proofs.step.fill.Statement.{statement}
 use Rattle.frames.proofs.step.fill.Tie as tie
 
-abbrev Inv-loop : tie.InvT-loop
-Inv-loop m u y v n bytes s1₀ s2₀ p₀ i₀ s1 s2 p i = (i ≤ 91) × ((length s1 ≡ 186) × ((length s2 ≡ 186) × Filled p₀ s1₀ s2₀ bytes i p s1 s2))
+lay-sync-requires : tie.Need-lay-sync-requires
+lay-sync-requires c κs =
+    let start = c .before .before .before .before in
+    let tables = start .pre .1 .1 .1 in
+    let begins = tables .1 in
+    (start .pre .0, (tables .0, (room-le _ 32 frameBits (omega arith) (begins .room), omega (arith, begins .one))))
 
-abbrev μ-loop : tie.MeasureT-loop
-μ-loop m u y v n bytes s1₀ s2₀ p₀ i₀ s1 s2 p i = 91 - i
+lay-sync-requires-2 : tie.Need-lay-sync-requires-2
+lay-sync-requires-2 c κs =
+    let laid = c .before .before .before in
+    let lent = laid .before in
+    let start = lent .before .before .before .before in
+    let tables = start .pre .1 .1 .1 in
+    let begins = tables .1 in
+    (start .pre .0, (tables .0, (room-le _ 32 frameBits (omega arith) (begins .room), omega (arith, begins .two))))
 
-lay-sync-requires : tie.Need-lay-sync-requires Inv-loop μ-loop
-lay-sync-requires c κs = let a = c .before .before .before .before in let g = a .pre .1 .1 .1 in (a .pre .0, (g .0, (room-le _ 32 1488 (omega arith) (g .1 .room), omega (arith, g .1 .one))))
-
-lay-sync-requires-2 : tie.Need-lay-sync-requires-2 Inv-loop μ-loop
-lay-sync-requires-2 c κs = let a = c .before .before .before .before .before .before .before .before in let g = a .pre .1 .1 .1 in (a .pre .0, (g .0, (room-le _ 32 1488 (omega arith) (g .1 .room), omega (arith, g .1 .two))))
-
-loop-holds : tie.Need-loop-holds Inv-loop μ-loop
-loop-holds c = let g = c .before .before .before .before .before .before .before .before .before .before .before .pre .1 .1 .1 .1 in (omega arith, (omega (arith, g .one), (omega (arith, g .two), filled-none _ _ _ _)))
-
-shared-slice-read-b : tie.Need-shared-slice-read-b Inv-loop μ-loop
-shared-slice-read-b c = omega (arith, c .before .before .before .before .before .before .before .before .before .before .before .before .before .before .pre .1 .1 .1 .1 .bytes)
-
-mul-step-byte : tie.Need-mul-step-byte Inv-loop μ-loop
-mul-step-byte c = omega arith
-
-add-step-byte : tie.Need-add-step-byte Inv-loop μ-loop
-add-step-byte c = omega arith
-
-step-byte-requires : tie.Need-step-byte-requires Inv-loop μ-loop
-step-byte-requires c κs =
-    let v = c .before .before .before .before .loop .inv in
-    let a = c .before .before .before .before .before .before .before .before .before .before .before .before .before .before .before .before in
-    let s = shows-opened (a .args .r) (a .args .n) _ _ _ _ (synced (a .args .r) (a .args .n) false _ (a .args .s1 .now) _ (c .before .before .before .before .before .before .before .before .before .before .before .lay-sync .ensures .0) (c .before .before .before .before .before .before .before .before .before .before .before .lay-sync .ensures .1) (omega (arith, a .pre .1 .1 .1 .1 .one))) (synced (a .args .r) (a .args .n) true _ (a .args .s2 .now) _ (c .before .before .before .before .before .before .before .lay-sync2 .ensures .0) (c .before .before .before .before .before .before .before .lay-sync2 .ensures .1) (omega (arith, a .pre .1 .1 .1 .1 .two))) in (
-      a .pre .0,
+step-bytes-requires : tie.Need-step-bytes-requires
+step-bytes-requires c κs =
+    let laid2 = c .before .before .before .before in
+    let laid1 = laid2 .before .before .before .before in
+    let lent = laid1 .before in
+    let start = lent .before .before .before .before in
+    let a = start .args in
+    let begins = start .pre .1 .1 .1 .1 in
+    let r = a .running in
+    let n = a .code in
+    let one = synced r n false (a .stream1 .now) (omega (arith, begins .one)) (laid1 .lay-sync .ensures) in
+    let two = synced r n true (a .stream2 .now) (omega (arith, begins .two)) (laid2 .lay-sync2 .ensures) in (
+      start .pre .0,
       (
-        ready (a .args .r) (a .args .n) (a .args .bytes .now) _ _ (a .pre .1 .1 .1 .1) (bytes-of _ (λ j h. omega (arith, c .before .before .shared-slice-known2 .given j))) (c .before .before .before .before .loop .i) (omega arith)
-            (c .before .before .before .before .loop .p) _ _ (v .1 .0) (v .1 .1 .0) (filled-use _ _ _ _ _ _ (a .args .bytes .now) _ _ s (v .1 .1 .1)),
-        (a .pre .1 .0, a .pre .1 .1 .0),
-      ),
-    )
-
-add-i : tie.Need-add-i Inv-loop μ-loop
-add-i c = omega arith
-
-loop-less : tie.Need-loop-less Inv-loop μ-loop
-loop-less c = omega arith
-
-loop-again : tie.Need-loop-again Inv-loop μ-loop
-loop-again c =
-    let v = c .before .before .before .before .before .before .before .before .before .loop .inv in
-    let a = c .before .before .before .before .before .before .before .before .before .before .before .before .before .before .before .before .before .before .before .before .before in (
-      omega arith,
-      (
-        omega arith,
+        start .pre .1 .0,
         (
-          omega arith,
-          filled-more _ _ _ _ _ _ _ _ _ (a .args .bytes .now) (c .before .before .before .before .before .before .before .before .before .loop .i) (omega (arith, a .pre .1 .1 .1 .1 .bytes)) (v .1 .1 .1) (c .before .before .before .before .step-byte .ensures),
+          start .pre .1 .1 .0,
+          record {
+            start = r;
+            code = n;
+            begins = begins-in begins (omega (arith, begins .one)) (omega (arith, begins .two));
+            shows = shows-opened r n one two;
+          },
         ),
       ),
     )
 
-same-length : tie.Need-same-length Inv-loop μ-loop
-same-length c = omega (arith, c .before .before .before .before .before .before .before .before .before .before .before .before .before .pre .1 .1 .1 .1 .one)
+same-length : tie.Need-same-length
+same-length c = search needs
 
-same-length-2 : tie.Need-same-length-2 Inv-loop μ-loop
-same-length-2 c = omega (arith, c .before .before .before .before .before .before .before .before .before .before .before .before .before .pre .1 .1 .1 .1 .two)
+same-length-2 : tie.Need-same-length-2
+same-length-2 c = search needs
 
-returns : tie.Need-returns Inv-loop μ-loop
+returns : tie.Need-returns
 returns c =
-    let v = c .before .loop .inv in
-    let a = c .before .before .before .before .before .before .before .before .before .before .before .before .before in
-    let s = shows-opened (a .args .r) (a .args .n) _ _ _ _ (synced (a .args .r) (a .args .n) false _ (a .args .s1 .now) _ (c .before .before .before .before .before .before .before .before .lay-sync .ensures .0) (c .before .before .before .before .before .before .before .before .lay-sync .ensures .1) (omega (arith, a .pre .1 .1 .1 .1 .one))) (synced (a .args .r) (a .args .n) true _ (a .args .s2 .now) _ (c .before .before .before .before .lay-sync2 .ensures .0) (c .before .before .before .before .lay-sync2 .ensures .1) (omega (arith, a .pre .1 .1 .1 .1 .two))) in
-    filled-all _ _ _ _ _ _ (a .args .bytes .now) (c .before .loop .i) _ (omega arith) (a .pre .1 .1 .1 .1 .bytes) (v .1 .0) (v .1 .1 .0) s (v .1 .1 .1)
+    let stepped = c .before .before .before .before in
+    let back2 = stepped .before .before .before .before in
+    let laid2 = back2 .before in
+    let back1 = laid2 .before .before .before in
+    let laid1 = back1 .before in
+    let lent = laid1 .before in
+    let start = lent .before .before .before .before in
+    let a = start .args in
+    let begins = start .pre .1 .1 .1 .1 in
+    let r = a .running in
+    let n = a .code in
+    let one = synced r n false (a .stream1 .now) (omega (arith, begins .one)) (laid1 .lay-sync .ensures) in
+    let two = synced r n true (a .stream2 .now) (omega (arith, begins .two)) (laid2 .lay-sync2 .ensures) in
+    stepped-whole r n (stepped .step-bytes .ensures) (shows-opened r n one two)
+    (begins-in begins (omega (arith, begins .one, back1 .stream1 .given, c .before .before .before .stream12 .given))
+    (omega (arith, begins .two, back2 .stream2 .given, c .before .stream22 .given)))
 
 pub fill-spec : {M : Type 1} → statement M
 fill-spec =
     tie.close
     (tie.spec
-    Inv-loop
-    μ-loop
     lay-sync-requires
     lay-sync-requires-2
-    loop-holds
-    shared-slice-read-b
-    mul-step-byte
-    add-step-byte
-    step-byte-requires
-    add-i
-    loop-less
-    loop-again
+    step-bytes-requires
     same-length
     same-length-2
     returns)

@@ -3,12 +3,12 @@ use mathlib.Core.Path.{refl}
 use Rattle.lists.specs.Fill.{tabulateFrom}
 use Rattle.field.specs.Field.{add, double, mulBits, mul, square, powHalves, pow}
 use Rattle.codes.specs.Parity.{addWords, timesRoot, generator}
-use Rattle.multiples.specs.Multiples.{number, high, low, half, multiples}
+use Rattle.multiples.specs.Inner.{bytesAsNumber, high, low, half, multiples}
 use Rattle.multiples.proofs.table.multiples16.Statement.{statement}
 use Rattle.multiples.proofs.table.multiples16.Tie as tie
 
 returns : tie.Need-returns
-unfolding tabulateFrom add double mulBits mul square powHalves pow addWords timesRoot generator number high low half multiples
+unfolding tabulateFrom add double mulBits mul square powHalves pow addWords timesRoot generator bytesAsNumber high low half multiples
 returns c = refl
 
 pub multiples16-spec : {M : Type 1} → statement M

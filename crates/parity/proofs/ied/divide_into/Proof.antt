@@ -11,10 +11,10 @@ use Rattle.parity.proofs.ied.divide_into.Statement.{statement}
 use Rattle.parity.proofs.ied.divide_into.Tie as tie
 
 abbrev Inv-loop : tie.InvT-loop
-Inv-loop t g d reg₀ i₀ reg i = (i ≤ length d) × (length reg ≡ length reg₀) × (remainder g reg (drop i d) ≡ remainder g reg₀ d)
+Inv-loop logs g d reg₀ i₀ reg i = (i ≤ length d) × (length reg ≡ length reg₀) × (remainder g reg (drop i d) ≡ remainder g reg₀ d)
 
 abbrev μ-loop : tie.MeasureT-loop
-μ-loop t g d reg₀ i₀ reg i = length d - i
+μ-loop logs g d reg₀ i₀ reg i = length d - i
 
 loop-holds : tie.Need-loop-holds Inv-loop μ-loop
 loop-holds c = (omega arith, refl, refl)
@@ -33,11 +33,14 @@ loop-less c = omega arith
 
 loop-again : tie.Need-loop-again Inv-loop μ-loop
 loop-again c =
-    let a = c .before .before .before .before .before .before .before .before .before .before .args in
-    let l = c .before .before .before .before .before .before .loop in
+    let back4 = c .before .before .before .before in
+    let turn = back4 .before .before in
+    let start = turn .before .before .before .before in
+    let a = start .args in
+    let l = turn .loop in
     let e = c .before .before .shift-in .ensures in (
       omega arith,
-      ap length e ∙ shift-size (a .g .now) (l .reg) (getD (a .d .now) (l .i) 0) (omega (arith, l .inv .1, c .before .before .before .before .before .before .before .before .before .before .pre .1)) ∙ l .inv .1,
+      ap length e ∙ shift-size (a .g .now) (l .reg) (getD (a .d .now) (l .i) 0) (omega (arith, l .inv .1, start .pre .1)) ∙ l .inv .1,
       ap (λ (r : List ℕ). remainder (a .g .now) r (drop (l .i + 1) (a .d .now))) e
           ∙ remainder-next (a .g .now) (l .reg) (a .d .now) (l .i) (omega arith) ∙ l .inv .2,
     )
@@ -46,7 +49,10 @@ same-length : tie.Need-same-length Inv-loop μ-loop
 same-length c = c .before .loop .inv .1
 
 returns : tie.Need-returns Inv-loop μ-loop
-returns c = sym (remainder-end (c .before .before .before .before .before .args .g .now) (c .before .loop .reg) (c .before .before .before .before .before .args .d .now) (c .before .loop .i) (omega arith)) ∙ c .before .loop .inv .2
+returns c =
+    let back4 = c .before .before .before .before in
+    let start = back4 .before in
+    sym (remainder-end (start .args .g .now) (c .before .loop .reg) (start .args .d .now) (c .before .loop .i) (omega arith)) ∙ c .before .loop .inv .2
 
 pub divide-into-spec : {M : Type 1} → statement M
 divide-into-spec =

@@ -1,7 +1,7 @@
 -- `parity::ied::shift_in` meets its contract: each turn writes one entry of `shiftIn`, read off the entries not yet written. Assumes nothing.
 use lib.Bits.{bitXor}
 use lib.ListN.{length-set, set}
-use Rattle.codes.proofs.Shift.{shift-last}
+use Rattle.codes.proofs.Shift.{shift-last, shiftAt, shift-is}
 use mathlib.Core.Path.{_≡_, refl, ap₂, sym, _∙_}
 use Prim.Native.Nat.{ℕ, _≤_, _-_, _+_}
 use native.Mathlib.Omega.{arith}
@@ -9,15 +9,14 @@ use lib.ListN.{length}
 use borrow.Author.Needs.{needs}
 use Rattle.field.specs.Field.{add}
 use Rattle.lists.proofs.Fill.{Upto, upto-none, upto-more, upto-all}
-use Rattle.codes.proofs.Shift.{shiftAt, shift-is}
 use Rattle.parity.proofs.ied.shift_in.Statement.{statement}
 use Rattle.parity.proofs.ied.shift_in.Tie as tie
 
 abbrev Inv-loop : tie.InvT-loop
-Inv-loop t g reg₀ b h last k₀ reg k = (k ≤ last) × Upto (shiftAt g reg₀ b) reg₀ reg k
+Inv-loop logs g reg₀ b h last k₀ reg k = (k ≤ last) × Upto (shiftAt g reg₀ b) reg₀ reg k
 
 abbrev μ-loop : tie.MeasureT-loop
-μ-loop t g reg₀ b h last k₀ reg k = last - k
+μ-loop logs g reg₀ b h last k₀ reg k = last - k
 
 slice-read-h : tie.Need-slice-read-h Inv-loop μ-loop
 slice-read-h c = omega arith
@@ -52,9 +51,11 @@ loop-less c = omega arith
 loop-again : tie.Need-loop-again Inv-loop μ-loop
 unfolding add shiftAt
 loop-again c =
+    let back4 = c .before .before .before .before in
+    let start = back4 .before .before .before .before in
     let w = c .before .before .before .before .loop .inv .1 in
     let k : ℕ = c .before .before .before .before .loop .k in
-    let a = c .before .before .before .before .before .before .before .before .args in (
+    let a = start .args in (
       omega arith,
       upto-more (shiftAt (a .g .now) (a .reg .now) (a .b)) (a .reg .now) (c .before .before .before .before .loop .reg) k _ (omega (arith, w .same))
           (ap₂ bitXor (w .left (k + 1) (omega arith)) (c .product .ensures)) w,
@@ -70,12 +71,17 @@ slice-write-reg-2 : tie.Need-slice-write-reg-2 Inv-loop μ-loop
 slice-write-reg-2 c = omega arith
 
 same-length : tie.Need-same-length Inv-loop μ-loop
-same-length c = length-set (c .before .before .before .loop .reg) (length (c .before .before .before .before .before .before .before .args .reg .now) - 1) (c .product2 .result) ∙ c .before .before .before .loop .inv .1 .same
+same-length c =
+    let back4 = c .before .before .before .before in
+    let start = back4 .before .before .before in
+    length-set (c .before .before .before .loop .reg) (length (start .args .reg .now) - 1) (c .product2 .result) ∙ c .before .before .before .loop .inv .1 .same
 
 returns : tie.Need-returns Inv-loop μ-loop
 unfolding add
 returns c =
-    let a = c .before .before .before .before .before .before .before .args in
+    let back4 = c .before .before .before .before in
+    let start = back4 .before .before .before in
+    let a = start .args in
     let last : ℕ = length (a .reg .now) - 1 in
     let e : c .before .before .before .loop .k ≡ last = omega arith in
     let s : last + 1 ≡ length (a .reg .now) = omega arith in
@@ -84,7 +90,7 @@ returns c =
     let u : Upto f (a .reg .now) (set (c .before .before .before .loop .reg) last (c .product2 .result)) (last + 1) =
     upto-more f (a .reg .now) (c .before .before .before .loop .reg) last (c .product2 .result) (omega (arith, w .same))
     (c .product2 .ensures ∙ sym (shift-last (a .g .now) (a .reg .now) (a .b) last (omega arith))) (rw e at w) in
-    upto-all f (a .reg .now) _ (length (a .reg .now)) refl (rw s at u) ∙ sym (shift-is (a .g .now) (a .reg .now) (a .b) (c .before .before .before .before .before .before .before .pre .1))
+    upto-all f (a .reg .now) _ (length (a .reg .now)) refl (rw s at u) ∙ sym (shift-is (a .g .now) (a .reg .now) (a .b) (start .pre .1))
 
 pub shift-in-spec : {M : Type 1} → statement M
 shift-in-spec =

@@ -7,7 +7,7 @@ use lib.ListN.{length, take}
 use Rattle.lists.specs.Bytes.{Bytes}
 use Rattle.codes.specs.Parity.{parity}
 use Rattle.codes.proofs.Division.{ten-roots, parity-length, parity-bytes}
-use Rattle.division.specs.Unpacked.{unpacked}
+use Rattle.division.specs.Inner.{unpacked}
 use Rattle.division.proofs.Unpacked.{unpacked-register}
 use borrow.Author.Needs.{needs}
 use Rattle.parity.proofs.parity.parity10_with.Statement.{statement}

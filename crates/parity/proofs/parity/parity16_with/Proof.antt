@@ -6,7 +6,7 @@ use lib.ListN.{length}
 use Rattle.lists.specs.Bytes.{Bytes}
 use Rattle.codes.specs.Parity.{parity}
 use Rattle.codes.proofs.Division.{sixteen-roots, parity-length, parity-bytes}
-use Rattle.division.specs.Unpacked.{unpacked}
+use Rattle.division.specs.Inner.{unpacked}
 use Rattle.division.proofs.Unpacked.{unpacked-whole}
 use borrow.Author.Needs.{needs}
 use Rattle.parity.proofs.parity.parity16_with.Statement.{statement}

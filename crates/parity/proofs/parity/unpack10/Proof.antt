@@ -1,6 +1,6 @@
 -- `parity::unpack10` meets its contract. Assumes nothing.
 use Rattle.lists.specs.Fill.{tabulateFrom}
-use Rattle.division.specs.Unpacked.{byteOf, unpacked}
+use Rattle.division.specs.Inner.{numberByte, unpacked}
 use borrow.Author.Needs.{needs}
 use Rattle.parity.proofs.parity.unpack10.Statement.{statement}
 use Rattle.parity.proofs.parity.unpack10.Tie as tie
@@ -36,7 +36,7 @@ byte-requires-10 : tie.Need-byte-requires-10
 byte-requires-10 c κs = search needs
 
 returns : tie.Need-returns
-unfolding tabulateFrom byteOf unpacked
+unfolding tabulateFrom numberByte unpacked
 returns c = cc
 
 pub unpack10-spec : {M : Type 1} → statement M

@@ -1,6 +1,6 @@
 -- `places::unpack` meets its contract. Assumes nothing.
 use Rattle.lists.specs.Fill.{tabulateFrom}
-use Rattle.division.specs.Unpacked.{byteOf, unpacked}
+use Rattle.division.specs.Inner.{numberByte, unpacked}
 use borrow.Author.Needs.{needs}
 use Rattle.parity.proofs.places.unpack.Statement.{statement}
 use Rattle.parity.proofs.places.unpack.Tie as tie
@@ -54,7 +54,7 @@ byte-requires-16 : tie.Need-byte-requires-16
 byte-requires-16 c κs = search needs
 
 returns : tie.Need-returns
-unfolding tabulateFrom byteOf unpacked
+unfolding tabulateFrom numberByte unpacked
 returns c = cc
 
 pub unpack-spec : {M : Type 1} → statement M

@@ -5,8 +5,8 @@ use native.Mathlib.Omega.{arith}
 use lib.ListN.{getD}
 use mir.Val.{Fits}
 use mir.Syntax.{w8}
-use Rattle.lists.proofs.Bytes.{bytes-of}
 use borrow.Author.Needs.{needs}
+use Rattle.lists.proofs.Bytes.{bytes-of}
 use Rattle.reedsolomon.proofs.column.column_search.Statement.{statement}
 use Rattle.reedsolomon.proofs.column.column_search.Tie as tie
 
@@ -16,6 +16,9 @@ column-locator-requires c κs = search needs
 slice-aggregate-search : tie.Need-slice-aggregate-search
 slice-aggregate-search c = search needs
 
+cast-search : tie.Need-cast-search
+cast-search c = search needs
+
 slice-aggregate-search-2 : tie.Need-slice-aggregate-search-2
 slice-aggregate-search-2 c = search needs
 
@@ -24,14 +27,15 @@ search-requires c κs = search needs
 
 returns : tie.Need-returns
 returns c =
-    let l = c .before .before .before .before .column-locator in
-    let q : List ℕ = l .result in (
-      omega (arith, c .before .search .ensures .0, c .at2 .given),
+    let searched = c .before in
+    let located = searched .before .before .before in
+    let q : List ℕ = located .column-locator .result in (
+      omega (arith, searched .search .ensures .0, c .at2 .given),
       record {
         locator = q;
         bytes = bytes-of q (λ i h. let f : Fits w8 (getD q i 0) = search needs in omega arith);
-        locates = l .ensures;
-        roots = c .before .search .ensures .1;
+        locates = located .column-locator .ensures;
+        roots = searched .search .ensures .1;
       },
     )
 
@@ -41,6 +45,7 @@ column-search-spec =
     (tie.spec
     column-locator-requires
     slice-aggregate-search
+    cast-search
     slice-aggregate-search-2
     search-requires
     returns)

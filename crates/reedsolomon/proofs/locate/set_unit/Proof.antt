@@ -1,32 +1,27 @@
 -- `locate::set_unit` meets its contract. Assumes nothing.
-use mathlib.Core.Path.{_≡_, refl, sym, ap, ap₂, _∙_}
-use mathlib.Core.List.{List}
-use Prim.Native.Nat.{ℕ, _+_, _-_, _<_, _≤_}
-use lib.ListN.{length, getD, drop}
-use Rattle.field.specs.Field.{add, mul, pow}
+use mathlib.Core.Path.{_≡_, refl, sym, ap, _∙_}
+use Prim.Native.Nat.{_-_, _≤_}
+use lib.ListN.{length}
 use mathlib.Core.Logic.{⊎-elim}
 use borrow.Author.Tests.{eq-eqb, ne-eqb}
 use lib.Dec.{eqb}
 use Rattle.lists.specs.Count.{bit}
 use Rattle.lists.proofs.Fill.{Upto, upto-none, upto-more, upto-all}
 use native.Mathlib.Omega.{arith}
-use borrow.Author.Needs.{needs}
 use Rattle.reedsolomon.proofs.locate.set_unit.Statement.{statement}
 use Rattle.reedsolomon.proofs.locate.set_unit.Tie as tie
-use Rattle.reedsolomon.proofs.locate.set_unit.Reads as reads
-use Rattle.reedsolomon.proofs.locate.set_unit.Lts as lts
 
 abbrev Inv-loop : tie.InvT-loop
-Inv-loop v₀ k j₀ v j = (j ≤ length v₀) × Upto (λ i. bit (eqb i k)) v₀ v j
+Inv-loop candidate₀ k j₀ candidate j = (j ≤ length candidate₀) × Upto (λ i. bit (eqb i k)) candidate₀ candidate j
 
 abbrev μ-loop : tie.MeasureT-loop
-μ-loop v₀ k j₀ v j = length v₀ - j
+μ-loop candidate₀ k j₀ candidate j = length candidate₀ - j
 
 loop-holds : tie.Need-loop-holds Inv-loop μ-loop
 loop-holds c = (omega arith, upto-none _ _)
 
-slice-write-v : tie.Need-slice-write-v Inv-loop μ-loop
-slice-write-v c = omega arith
+slice-write-candidate : tie.Need-slice-write-candidate Inv-loop μ-loop
+slice-write-candidate c = omega arith
 
 add-j : tie.Need-add-j Inv-loop μ-loop
 add-j c = omega arith
@@ -39,7 +34,7 @@ loop-again c =
     let s = c .before .before .before in
     let l = c .before .before .loop in (
       omega arith,
-      upto-more _ (s .args .v .now) (l .v) (l .j) (c .if1 .v) (omega arith)
+      upto-more _ (s .args .candidate .now) (l .candidate) (l .j) (c .if1 .candidate) (omega arith)
           (⊎-elim (λ w. w .1 ∙ sym (ap bit (eq-eqb (l .j) (s .args .k) (w .0 .taken)))) (λ w. w .1 ∙ sym (ap bit (ne-eqb (l .j) (s .args .k) (w .0 .left)))) (c .if1 .came)) (l .inv .1),
     )
 
@@ -50,8 +45,8 @@ returns : tie.Need-returns Inv-loop μ-loop
 returns c =
     let s = c .before .before in
     let l = c .before .loop in
-    let e : l .j ≡ length (s .args .v .now) = omega arith in
-    upto-all _ (s .args .v .now) (l .v) (length (s .args .v .now)) refl (rw e at (l .inv .1))
+    let e : l .j ≡ length (s .args .candidate .now) = omega arith in
+    upto-all _ (s .args .candidate .now) (l .candidate) (length (s .args .candidate .now)) refl (rw e at (l .inv .1))
 
 pub set-unit-spec : {M : Type 1} → statement M
 set-unit-spec =
@@ -60,7 +55,7 @@ set-unit-spec =
     Inv-loop
     μ-loop
     loop-holds
-    slice-write-v
+    slice-write-candidate
     add-j
     loop-less
     loop-again

@@ -1,33 +1,41 @@
 -- `row::correct_row_from` meets its contract: the syndromes decide, of the row and of the mended row. Assumes nothing.
-use mathlib.Core.Path.{_≡_, sym, _∙_, subst}
-use mathlib.Core.List.{List}
-use Prim.Native.Nat.{ℕ}
+use mathlib.Core.Path.{_≡_}
 use native.Mathlib.Omega.{arith}
-use lib.ListN.{length, getD, take}
+use lib.ListN.{length, getD}
 use mir.Val.{Fits}
 use mir.Syntax.{w8}
+use borrow.Author.Needs.{needs}
 use Rattle.lists.specs.Bytes.{Bytes}
 use Rattle.lists.proofs.Bytes.{bytes-of}
-use Rattle.codes.specs.Decoding.{at, Places}
-use Rattle.codes.proofs.Decision.{clean, corrected, uncorrectable, places-below}
-use borrow.Author.Needs.{needs}
+use Rattle.reedsolomon.proofs.Repair.{row-shape, word-clean, word-corrected, word-uncorrectable}
 use Rattle.reedsolomon.proofs.row.correct_row_from.Statement.{statement}
 use Rattle.reedsolomon.proofs.row.correct_row_from.Tie as tie
 use Rattle.reedsolomon.proofs.row.correct_row_from.Reads as reads
 use Rattle.reedsolomon.proofs.row.correct_row_from.Lts as lts
-use Rattle.reedsolomon.proofs.row.row_mend.Reads as row-mend-reads
-use Rattle.reedsolomon.proofs.row.row_search.Reads as row-search-reads
-use Rattle.reedsolomon.proofs.row.row_syndromes.Reads as row-syndromes-reads
+use Rattle.reedsolomon.proofs.row.row_mend.Reads as mend-reads
+use Rattle.reedsolomon.proofs.row.row_search.Reads as search-reads
+use Rattle.reedsolomon.proofs.row.row_syndromes.Reads as syndromes-reads
 use Rattle.reedsolomon.proofs.syndromes.all_zero.Reads as all-zero-reads
 
+-- the row that comes in
 abbrev Start : Type 0
-Start = lts.Start (all-zero-reads.Asked, all-zero-reads.Learnt, row-search-reads.Asked, row-search-reads.Learnt, row-mend-reads.Asked, row-mend-reads.Learnt, row-syndromes-reads.Asked, row-syndromes-reads.Learnt) reads.Pre reads.Post
+Start =
+    lts.Start (
+      all-zero-reads.Asked,
+      all-zero-reads.Learnt,
+      search-reads.Asked,
+      search-reads.Learnt,
+      mend-reads.Asked,
+      mend-reads.Learnt,
+      syndromes-reads.Asked,
+      syndromes-reads.Learnt,
+    ) reads.Pre reads.Post
 
-size : (s : Start) → length (s .args .r .bytes) ≡ 182
-size s = search needs
+size : (start : Start) → length (start .args .row .bytes) ≡ 182
+size start = search needs
 
-bytes : (s : Start) → Bytes (s .args .r .bytes)
-bytes s = bytes-of (s .args .r .bytes) (λ i l. let f : Fits w8 (getD (s .args .r .bytes) i 0) = search needs in omega arith)
+bytes : (start : Start) → Bytes (start .args .row .bytes)
+bytes start = bytes-of (start .args .row .bytes) (λ i l. let f : Fits w8 (getD (start .args .row .bytes) i 0) = search needs in omega arith)
 
 slice-aggregate-all-zero : tie.Need-slice-aggregate-all-zero
 slice-aggregate-all-zero c = search needs
@@ -38,17 +46,13 @@ all-zero-requires c κs = search needs
 returns : tie.Need-returns
 returns c =
     let start = c .before .before .before .before in
-    clean 10 5 (start .args .r .bytes) (bytes start) (omega (arith, size start)) (omega arith) (start .args .t3) (start .pre .2)
-    (sym (c .before .all-zero .ensures) ∙ c .if1 .taken)
+    word-clean row-shape _ (size start) (bytes start) _ (start .pre .2) _ (c .before .all-zero .ensures) (c .if1 .taken)
 
 row-search-requires : tie.Need-row-search-requires
 row-search-requires c κs = search needs
 
 row-mend-requires : tie.Need-row-mend-requires
-row-mend-requires c κs =
-    let start = c .before .before .before .before .before in
-    let found = c .row-search in
-    (start .pre .0, found .ensures .0, places-below (at (start .args .t3)) _ 182 (found .result .at) (found .result .count) (found .ensures .1) (found .ensures .0))
+row-mend-requires c κs = search needs
 
 row-syndromes-requires : tie.Need-row-syndromes-requires
 row-syndromes-requires c κs = search needs
@@ -61,29 +65,23 @@ all-zero-requires-2 c κs = search needs
 
 returns-2 : tie.Need-returns-2
 returns-2 c =
-    let decided = c .before .before .before .before .before .before in
-    let start = decided .before .before .before .before in
-    let mend = c .before .before .before .before .row-mend in
-    let near : List ℕ = mend .result in
-    let again = c .before .before .before .row-syndromes in
-    let found = c .before .before .before .before .before .row-search in
-    corrected 10 5 (start .args .r .bytes) (bytes start) (omega (arith, size start)) (omega arith) (start .args .t3) (start .pre .2)
-    (take (found .result .count) (found .result .at)) (subst (λ (k : ℕ). Places (at (start .args .t3)) 5 k (take (found .result .count) (found .result .at))) (sym (size start)) (found .ensures .1))
-    near (mend .ensures) (again .result) (again .ensures) (sym (decided .before .all-zero .ensures) ∙ decided .if1 .left)
-    (sym (c .before .all-zero2 .ensures) ∙ c .if2 .taken)
+    let summed = c .before .before .before in
+    let mended = summed .before in
+    let found = mended .before in
+    let dirty = found .before in
+    let start = dirty .before .before .before .before in
+    word-corrected row-shape _ (size start) (bytes start) _ (start .pre .2) _ (dirty .before .all-zero .ensures) (dirty .if1 .left)
+    _ (found .row-search .ensures .1) _ (mended .row-mend .ensures) _ (summed .row-syndromes .ensures) _ (c .before .all-zero2 .ensures) (c .if2 .taken)
 
 returns-3 : tie.Need-returns-3
 returns-3 c =
-    let decided = c .before .before .before .before .before .before in
-    let start = decided .before .before .before .before in
-    let mend = c .before .before .before .before .row-mend in
-    let near : List ℕ = mend .result in
-    let again = c .before .before .before .row-syndromes in
-    let found = c .before .before .before .before .before .row-search in
-    uncorrectable 10 5 (start .args .r .bytes) (bytes start) (omega (arith, size start)) (omega arith) (start .args .t3) (start .pre .2)
-    (take (found .result .count) (found .result .at)) (subst (λ (k : ℕ). Places (at (start .args .t3)) 5 k (take (found .result .count) (found .result .at))) (sym (size start)) (found .ensures .1))
-    near (mend .ensures) (again .result) (again .ensures) (sym (decided .before .all-zero .ensures) ∙ decided .if1 .left)
-    (sym (c .before .all-zero2 .ensures) ∙ c .if2 .left)
+    let summed = c .before .before .before in
+    let mended = summed .before in
+    let found = mended .before in
+    let dirty = found .before in
+    let start = dirty .before .before .before .before in
+    word-uncorrectable row-shape _ (size start) (bytes start) _ (start .pre .2) _ (dirty .before .all-zero .ensures) (dirty .if1 .left)
+    _ (found .row-search .ensures .1) _ (mended .row-mend .ensures) _ (summed .row-syndromes .ensures) _ (c .before .all-zero2 .ensures) (c .if2 .left)
 
 pub correct-row-from-spec : {M : Type 1} → statement M
 correct-row-from-spec =

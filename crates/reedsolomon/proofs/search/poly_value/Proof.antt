@@ -1,27 +1,22 @@
 -- `search::poly_value` meets its contract: Horner's rule from the highest coefficient on. Assumes nothing.
-use mathlib.Core.Path.{_≡_, refl, sym, ap, ap₂, _∙_}
-use mathlib.Core.List.{List}
-use Prim.Native.Nat.{ℕ, _+_, _-_, _<_, _≤_}
+use mathlib.Core.Path.{_≡_, sym, ap, _∙_}
+use Prim.Native.Nat.{ℕ, _-_, _≤_}
 use lib.ListN.{length, getD, drop}
-use Rattle.field.specs.Field.{add, mul, pow}
-use Rattle.codes.specs.Decoding.{polyAt}
+use Rattle.field.specs.Field.{add}
+use Rattle.codes.specs.Inner.{polyAt}
 use Rattle.reedsolomon.proofs.Loops.{poly-start, poly-next}
 use native.Mathlib.Omega.{arith}
-use borrow.Author.Needs.{needs}
 use Rattle.reedsolomon.proofs.search.poly_value.Statement.{statement}
 use Rattle.reedsolomon.proofs.search.poly_value.Tie as tie
-use Rattle.reedsolomon.proofs.search.poly_value.Reads as reads
-use Rattle.reedsolomon.proofs.search.poly_value.Lts as lts
-use Rattle.field.proofs.product.Reads as product-reads
 
 abbrev Inv-loop : tie.InvT-loop
-Inv-loop t c x v₀ i₀ v i = (i ≤ length c) × (v ≡ polyAt (drop i c) x)
+Inv-loop logs polynomial x v₀ i₀ v i = (i ≤ length polynomial) × (v ≡ polyAt (drop i polynomial) x)
 
 abbrev μ-loop : tie.MeasureT-loop
-μ-loop t c x v₀ i₀ v i = i
+μ-loop logs polynomial x v₀ i₀ v i = i
 
 loop-holds : tie.Need-loop-holds Inv-loop μ-loop
-loop-holds c = (omega arith, sym (poly-start (c .before .args .c .now) (c .before .args .x)))
+loop-holds c = (omega arith, sym (poly-start (c .before .args .polynomial .now) (c .before .args .x)))
 
 sub-i : tie.Need-sub-i Inv-loop μ-loop
 sub-i c = omega arith
@@ -38,16 +33,17 @@ loop-less c = omega arith
 loop-again : tie.Need-loop-again Inv-loop μ-loop
 unfolding add
 loop-again c =
-    let s = c .before .before .before .before .before in
+    let after-shared-slice-known = c .before .before .before .before in
+    let s = after-shared-slice-known .before in
     let l = c .before .before .before .loop in
-    (omega arith, ap (add (getD (s .args .c .now) (l .i - 1) 0)) (c .product .ensures) ∙ poly-next (s .args .c .now) (s .args .x) (l .i) (l .v) (omega arith) (omega arith) (l .inv .1))
+    (omega arith, ap (add (getD (s .args .polynomial .now) (l .i - 1) 0)) (c .product .ensures) ∙ poly-next (s .args .polynomial .now) (s .args .x) (l .i) (l .v) (omega arith) (omega arith) (l .inv .1))
 
 returns : tie.Need-returns Inv-loop μ-loop
 returns c =
     let s = c .before .before .before in
     let l = c .before .loop in
     let e : l .i ≡ 0 = omega arith in
-    l .inv .1 ∙ ap (λ (n : ℕ). polyAt (drop n (s .args .c .now)) (s .args .x)) e
+    l .inv .1 ∙ ap (λ (n : ℕ). polyAt (drop n (s .args .polynomial .now)) (s .args .x)) e
 
 pub poly-value-spec : {M : Type 1} → statement M
 poly-value-spec =

@@ -13,10 +13,10 @@ use Rattle.reedsolomon.proofs.syndromes.all_zero.Statement.{statement}
 use Rattle.reedsolomon.proofs.syndromes.all_zero.Tie as tie
 
 abbrev Inv-loop : tie.InvT-loop
-Inv-loop s k₀ k = (i : ℕ) → i < k → _≡_ {A = ℕ} (getD s i 0) 0
+Inv-loop syndromes k₀ k = (i : ℕ) → i < k → _≡_ {A = ℕ} (getD syndromes i 0) 0
 
 abbrev μ-loop : tie.MeasureT-loop
-μ-loop s k₀ k = length s - k
+μ-loop syndromes k₀ k = length syndromes - k
 
 loop-holds : tie.Need-loop-holds Inv-loop μ-loop
 loop-holds c i l = absurd (omega arith)
@@ -27,7 +27,7 @@ shared-slice-read-if1 c = omega arith
 returns : tie.Need-returns Inv-loop μ-loop
 unfolding allZero
 returns c =
-    let s = c .before .before .before .before .args .s .now in
+    let s = c .before .before .before .before .args .syndromes .now in
     let k : ℕ = c .before .before .before .loop .k in
     sym (below-false (length s) (λ i. eqb (getD s i 0) 0) k (omega arith) (ne-eqb (getD s k 0) 0 (c .if1 .taken)))
 
@@ -45,7 +45,7 @@ loop-again c i h =
 returns-2 : tie.Need-returns-2 Inv-loop μ-loop
 unfolding allZero
 returns-2 c =
-    let s = c .before .before .args .s .now in
+    let s = c .before .before .args .syndromes .now in
     let l = c .before .loop in
     sym (truth _ (below-all (length s) (λ i. eqb (getD s i 0) 0) (λ i h. truth-of _ (eq-eqb (getD s i 0) 0 (l .inv i (omega arith))))))
 

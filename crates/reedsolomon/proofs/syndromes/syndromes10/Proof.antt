@@ -15,8 +15,8 @@ is-zero-requires c κs = search needs
 
 returns : tie.Need-returns
 returns c =
-    let x = c .before .before .args .x in
-    syndromes-none 10 (x .high) (x .low) (omega arith) (c .before .is-zero .result) (c .before .is-zero .ensures) (c .if1 .taken)
+    let left = c .before .before .args .left in
+    syndromes-none 10 (left .high) (left .low) (omega arith) (c .before .is-zero .result) (c .before .is-zero .ensures) (c .if1 .taken)
 
 unpack10-requires : tie.Need-unpack10-requires
 unpack10-requires c κs = search needs

@@ -8,16 +8,12 @@ use Rattle.codes.specs.Word.{valueAt, syndrome}
 use native.Mathlib.Omega.{arith}
 use Rattle.reedsolomon.proofs.syndromes.syndromes_into.Statement.{statement}
 use Rattle.reedsolomon.proofs.syndromes.syndromes_into.Tie as tie
-use Rattle.reedsolomon.proofs.syndromes.syndromes_into.Reads as reads
-use Rattle.reedsolomon.proofs.syndromes.syndromes_into.Lts as lts
-use Rattle.field.proofs.alpha_power.Reads as alpha-power-reads
-use Rattle.reedsolomon.proofs.syndromes.value_of.Reads as value-of-reads
 
 abbrev Inv-loop : tie.InvT-loop
-Inv-loop t w out₀ i₀ k₀ out i k = (i ≤ length out₀) × (k ≡ i) × Upto (syndrome w) out₀ out i
+Inv-loop logs word out₀ i₀ k₀ out i k = (i ≤ length out₀) × (k ≡ i) × Upto (syndrome word) out₀ out i
 
 abbrev μ-loop : tie.MeasureT-loop
-μ-loop t w out₀ i₀ k₀ out i k = length out₀ - i
+μ-loop logs word out₀ i₀ k₀ out i k = length out₀ - i
 
 loop-holds : tie.Need-loop-holds Inv-loop μ-loop
 loop-holds c = (omega arith, refl, upto-none _ _)
@@ -26,7 +22,10 @@ alpha-power-requires : tie.Need-alpha-power-requires Inv-loop μ-loop
 alpha-power-requires c κs = c .before .before .before .before .pre .0
 
 value-of-requires : tie.Need-value-of-requires Inv-loop μ-loop
-value-of-requires c κs = c .before .before .before .before .before .pre .0
+value-of-requires c κs =
+    let after-shared-slice-known = c .before .before .before .before in
+    let start = after-shared-slice-known .before in
+    start .pre .0
 
 slice-write-out : tie.Need-slice-write-out Inv-loop μ-loop
 slice-write-out c = omega arith
@@ -43,12 +42,13 @@ loop-less c = omega arith
 loop-again : tie.Need-loop-again Inv-loop μ-loop
 unfolding syndrome
 loop-again c =
-    let s = c .before .before .before .before .before .before in
+    let after-slice-known = c .before .before .before .before in
+    let s = after-slice-known .before .before in
     let l = c .before .before .before .loop in (
       omega arith,
       omega arith,
       upto-more _ (s .args .out .now) (l .out) (l .i) (c .value-of .result) (omega arith)
-          (c .value-of .ensures ∙ ap (valueAt (s .args .w .now)) (c .before .alpha-power .ensures ∙ ap (pow 2) (l .inv .1))) (l .inv .2),
+          (c .value-of .ensures ∙ ap (valueAt (s .args .word .now)) (c .before .alpha-power .ensures ∙ ap (pow 2) (l .inv .1))) (l .inv .2),
     )
 
 same-length : tie.Need-same-length Inv-loop μ-loop

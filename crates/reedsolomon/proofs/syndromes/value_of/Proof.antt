@@ -8,15 +8,12 @@ use Rattle.codes.proofs.Words.{valueFrom-next, valueFrom-end}
 use native.Mathlib.Omega.{arith}
 use Rattle.reedsolomon.proofs.syndromes.value_of.Statement.{statement}
 use Rattle.reedsolomon.proofs.syndromes.value_of.Tie as tie
-use Rattle.reedsolomon.proofs.syndromes.value_of.Reads as reads
-use Rattle.reedsolomon.proofs.syndromes.value_of.Lts as lts
-use Rattle.field.proofs.product.Reads as product-reads
 
 abbrev Inv-loop : tie.InvT-loop
-Inv-loop t w x v₀ i₀ v i = (i ≤ length w) × (valueFrom x v (drop i w) ≡ valueAt w x)
+Inv-loop logs word x v₀ i₀ v i = (i ≤ length word) × (valueFrom x v (drop i word) ≡ valueAt word x)
 
 abbrev μ-loop : tie.MeasureT-loop
-μ-loop t w x v₀ i₀ v i = length w - i
+μ-loop logs word x v₀ i₀ v i = length word - i
 
 loop-holds : tie.Need-loop-holds Inv-loop μ-loop
 unfolding valueAt
@@ -36,10 +33,13 @@ loop-less c = omega arith
 
 loop-again : tie.Need-loop-again Inv-loop μ-loop
 unfolding add
-loop-again c = (omega arith, rw (c .before .product .ensures) (valueFrom-next (c .before .before .before .before .before .args .x) (c .before .before .before .loop .v) (c .before .before .before .before .before .args .w .now) (c .before .before .before .loop .i) (omega arith) ∙ c .before .before .before .loop .inv .1))
+loop-again c =
+    let after-shared-slice-known = c .before .before .before .before in
+    let start = after-shared-slice-known .before in
+    (omega arith, rw (c .before .product .ensures) (valueFrom-next (start .args .x) (c .before .before .before .loop .v) (start .args .word .now) (c .before .before .before .loop .i) (omega arith) ∙ c .before .before .before .loop .inv .1))
 
 returns : tie.Need-returns Inv-loop μ-loop
-returns c = sym (valueFrom-end (c .before .before .before .args .x) (c .before .loop .v) (c .before .before .before .args .w .now) (c .before .loop .i) (omega arith)) ∙ c .before .loop .inv .1
+returns c = sym (valueFrom-end (c .before .before .before .args .x) (c .before .loop .v) (c .before .before .before .args .word .now) (c .before .loop .i) (omega arith)) ∙ c .before .loop .inv .1
 
 pub value-of-spec : {M : Type 1} → statement M
 value-of-spec =

@@ -1,32 +1,75 @@
--- `columns::column_syndromes` meets its contract: the last sixteen bytes added to the register of the others are what is left of the column. Assumes nothing.
+-- `columns::column_syndromes` meets its contract: the last sixteen bytes are added to the register of the others. Assumes nothing.
+use mathlib.Core.Path.{_∙_}
+use Prim.Native.Nat.{ℕ, _<_}
 use native.Mathlib.Omega.{arith}
-use Rattle.lists.specs.Bytes.{Bytes}
-use Rattle.field.specs.Field.{add}
-use Rattle.eccblock.specs.Parts.{columnOf}
-use Rattle.repairer.proofs.DivisionLaws.{column-bytes, column-high, column-low, column-syndromes}
+use lib.ListN.{getD}
 use borrow.Author.Needs.{needs}
+use Rattle.layout.proofs.Places.{column-bytes}
+use Rattle.repairer.specs.declared.words.Axis.the-variants.{Columns}
+use Rattle.repairer.proofs.Along.{left-syndromes}
+use Rattle.repairer.proofs.ColumnLaws.{column-left}
 use Rattle.repairer.proofs.columns.column_syndromes.Statement.{statement}
 use Rattle.repairer.proofs.columns.column_syndromes.Tie as tie
 
-eight-requires : tie.Need-eight-requires
-eight-requires c κs = search needs
+mul-high : tie.Need-mul-high
+mul-high c = search needs
 
-eight-requires-2 : tie.Need-eight-requires-2
-eight-requires-2 c κs = search needs
+mul-high-2 : tie.Need-mul-high-2
+mul-high-2 c = search needs
+
+element-copy-out-high : tie.Need-element-copy-out-high
+element-copy-out-high c = search needs
+
+mul-low : tie.Need-mul-low
+mul-low c = search needs
+
+add-low : tie.Need-add-low
+add-low c = search needs
+
+mul-low-2 : tie.Need-mul-low-2
+mul-low-2 c = search needs
+
+element-copy-out-low : tie.Need-element-copy-out-low
+element-copy-out-low c = search needs
+
+column-end-requires : tie.Need-column-end-requires
+column-end-requires c κs = search needs
+
+slice-aggregate-add-last : tie.Need-slice-aggregate-add-last
+slice-aggregate-add-last c = search needs
+
+add-last-requires : tie.Need-add-last-requires
+add-last-requires c κs = search needs
 
 syndromes16-requires : tie.Need-syndromes16-requires
 syndromes16-requires c κs = search needs
 
 returns : tie.Need-returns
-unfolding add
 returns c =
-    let s = c .before .before .before .before in
-    let xs = s .args .b .now in
-    let bytes : Bytes (columnOf xs (s .args .j)) = column-bytes xs (λ k. omega (arith, c .before .before .before .shared-slice-known .given k)) (s .args .j) in
-    let high = column-high xs (s .args .j) bytes (s .args .h) (c .before .before .eight .result) (s .pre .3) (c .before .before .eight .ensures) in
-    let low = column-low xs (s .args .j) bytes (s .args .l) (c .before .eight2 .result) (s .pre .4) (c .before .eight2 .ensures) in
-    column-syndromes xs (s .args .j) bytes _ _ _ high low (c .syndromes16 .ensures)
+    let added = c .before in
+    let ended = added .before .before in
+    let known = ended .before .before .before in
+    let start = known .before in
+    let xs = start .args .block .now in
+    let j = start .args .j in
+    let small : (i : ℕ) → getD xs i 0 < 256 = λ i. omega (arith, known .shared-slice-known .given i) in
+    let left = column-left xs (start .args .registers .now) (ended .column-end .result) j (column-bytes xs small j) (start .pre .3) (ended .column-end .ensures) in
+    left-syndromes Columns xs j (start .pre .1) small (start .pre .2) _ _ _
+    (added .add-last .ensures .0 ∙ left .0) (added .add-last .ensures .1 ∙ left .1) (c .syndromes16 .ensures)
 
 pub column-syndromes-spec : {M : Type 1} → statement M
 column-syndromes-spec =
-    tie.close (tie.spec eight-requires eight-requires-2 syndromes16-requires returns)
+    tie.close
+    (tie.spec
+    mul-high
+    mul-high-2
+    element-copy-out-high
+    mul-low
+    add-low
+    mul-low-2
+    element-copy-out-low
+    column-end-requires
+    slice-aggregate-add-last
+    add-last-requires
+    syndromes16-requires
+    returns)

@@ -1,20 +1,16 @@
--- `columns::repair_column` meets its contract: a code column stays, and any other is taken out, corrected and stored back. Assumes nothing.
-use mathlib.Core.Path.{_≡_, sym, ap, _∙_}
-use mathlib.Core.Bool.{true}
+-- `columns::repair_column` meets its contract: its sums decide; a column that is no code column is taken out, corrected and stored back. Assumes nothing.
+use mathlib.Core.Path.{sym, ap, _∙_}
 use mathlib.Core.List.{List}
-use Prim.Native.Nat.{ℕ}
+use Prim.Native.Nat.{ℕ, _<_}
 use native.Mathlib.Omega.{arith}
-use Rattle.lists.specs.Fill.{tabulate}
-use Rattle.codes.specs.Nearest.{nearest, outcomeOf}
-use Rattle.codes.specs.Word.{syndrome, isCode}
-use Rattle.codes.proofs.Decision.{allZero-isCode}
-use Rattle.codes.proofs.Nearest.{outcome-clean}
-use Rattle.eccblock.specs.Parts.{columnOf}
-use Rattle.repairer.specs.Steps.{columnPlace}
-use Rattle.repairer.proofs.CleanLaws.{clean-stored}
-use Rattle.repairer.proofs.DivisionLaws.{column-length, column-byte, column-bytes}
-use Rattle.repairer.proofs.Parts.{stored-same}
+use lib.ListN.{length, getD}
 use borrow.Author.Needs.{needs}
+use Rattle.lists.specs.Fill.{tabulate}
+use Rattle.codes.specs.Word.{syndrome}
+use Rattle.codes.specs.Nearest.{nearest, outcomeOf}
+use Rattle.repairer.specs.declared.words.Axis.the-variants.{Columns}
+use Rattle.repairer.proofs.Along.{syndromes-zero, nearest-size}
+use Rattle.repairer.proofs.ColumnLaws.{column-stored}
 use Rattle.repairer.proofs.columns.repair_column.Statement.{statement}
 use Rattle.repairer.proofs.columns.repair_column.Tie as tie
 
@@ -34,38 +30,58 @@ returns : tie.Need-returns
 returns c =
     let summed = c .before .before .before in
     let known = summed .before .before in
-    let s = known .before in
-    let xs = s .args .b .now in
-    let w = columnOf xs (s .args .j) in
-    let code : isCode 16 w ≡ true =
-    sym (allZero-isCode 16 w (summed .column-syndromes .result) (summed .column-syndromes .ensures)) ∙ sym (c .before .all-zero .ensures) ∙ c .if1 .taken in
-    let bytes = column-bytes xs (λ k. omega (arith, known .slice-known .given k)) (s .args .j) in (
-      sym (outcome-clean 16 8 w bytes code),
-      clean-stored 16 8 w bytes (omega (arith, column-length xs (s .args .j))) (omega arith) code (columnPlace (s .args .j)) xs 208 (λ i l. sym (column-byte xs (s .args .j) i l)),
-    )
+    let start = known .before in
+    let xs = start .args .block .now in
+    let small : (i : ℕ) → getD xs i 0 < 256 = λ i. omega (arith, known .slice-known .given i) in
+    syndromes-zero Columns xs (start .args .j) (start .pre .2) small (start .pre .3) _ (summed .column-syndromes .ensures) _ (c .before .all-zero .ensures)
+    (c .if1 .taken)
 
 column-at-requires : tie.Need-column-at-requires
 column-at-requires c κs = search needs
 
 correct-column-from-requires : tie.Need-correct-column-from-requires
 correct-column-from-requires c κs =
-    let summed = c .before .before .before .before .before in
-    let s = summed .before .before .before in
-    (s .pre .0, s .pre .1, summed .column-syndromes .ensures ∙ ap (λ (w : List ℕ). tabulate (syndrome w) 16) (sym (c .column-at .ensures)))
+    let dirty = c .before .before in
+    let summed = dirty .before .before .before in
+    let start = summed .before .before .before in
+    (start .pre .0, start .pre .1, summed .column-syndromes .ensures ∙ ap (λ (w : List ℕ). tabulate (syndrome w) 16) (sym (c .column-at .ensures)))
+
+slice-aggregate-store-column : tie.Need-slice-aggregate-store-column
+slice-aggregate-store-column c = search needs
 
 store-column-requires : tie.Need-store-column-requires
-store-column-requires c κs = search needs
+store-column-requires c κs =
+    let corrected = c .before .before .before in
+    let taken = corrected .before in
+    let dirty = taken .before .before in
+    let summed = dirty .before .before .before in
+    let known = summed .before .before in
+    let start = known .before in
+    let xs = start .args .block .now in
+    let small : (i : ℕ) → getD xs i 0 < 256 = λ i. omega (arith, known .slice-known .given i) in
+    let near = corrected .correct-column-from .ensures .0 ∙ ap (nearest 16 8) (taken .column-at .ensures) in
+    let l = ap length near ∙ nearest-size Columns xs (start .args .j) (start .pre .2) small (start .pre .3) in
+    (start .pre .2, omega (arith, l), start .pre .3)
 
 same-length-2 : tie.Need-same-length-2
 same-length-2 c = search needs
 
 returns-2 : tie.Need-returns-2
 returns-2 c =
-    let taken-out = c .before .before .before .before .before .before .before in
-    let j = taken-out .before .before .before .before .before .before .before .before .args .j in
-    let w = taken-out .column-at .ensures in
-    let r = c .before .before .before .before .before .before .correct-column-from .ensures in
-    (r .1 ∙ ap (outcomeOf 16 8) w, stored-same (columnPlace j) _ _ _ _ 208 (r .0 ∙ ap (nearest 16 8) w) (c .before .before .store-column .ensures))
+    let stored = c .before .before in
+    let corrected = stored .before .before .before .before in
+    let taken = corrected .before in
+    let dirty = taken .before .before in
+    let summed = dirty .before .before .before in
+    let known = summed .before .before in
+    let start = known .before in
+    let xs = start .args .block .now in
+    let small : (i : ℕ) → getD xs i 0 < 256 = λ i. omega (arith, known .slice-known .given i) in
+    let r = corrected .correct-column-from .ensures in
+    let w = taken .column-at .ensures in
+    let near = r .0 ∙ ap (nearest 16 8) w in
+    let l = ap length near ∙ nearest-size Columns xs (start .args .j) (start .pre .2) small (start .pre .3) in
+    (r .1 ∙ ap (outcomeOf 16 8) w, column-stored (start .args .j) _ _ _ _ l near (stored .store-column .ensures))
 
 pub repair-column-spec : {M : Type 1} → statement M
 repair-column-spec =
@@ -78,6 +94,7 @@ repair-column-spec =
     returns
     column-at-requires
     correct-column-from-requires
+    slice-aggregate-store-column
     store-column-requires
     same-length-2
     returns-2)

@@ -3,7 +3,7 @@ use mathlib.Core.Path.{_≡_, refl, sym, ap, _∙_}
 use Prim.Native.Nat.{ℕ, _≤_, _-_}
 use borrow.Author.Needs.{needs}
 use Rattle.dataframe.specs.Checks.{numberOf}
-use Rattle.eccblock.specs.Parts.{frameOf}
+use Rattle.layout.specs.Rows.{frameOf}
 use Rattle.repairer.specs.Answer.{judged}
 use Rattle.repairer.specs.declared.Repaired.the-variants.{Block, FrameRefused}
 use Rattle.repairer.proofs.FrameLaws.{fault-is, frame-passes, frame-fails, judged-none}
@@ -12,10 +12,12 @@ use Rattle.repairer.proofs.frames.judge_frames.Statement.{statement}
 use Rattle.repairer.proofs.frames.judge_frames.Tie as tie
 
 abbrev Inv-loop : tie.InvT-loop
-Inv-loop t b tallies first info k₀ k = (k ≤ 16) × (judged b 0 16 (Block (numberOf (frameOf b 0)) tallies) ≡ judged b k (16 - k) (Block (numberOf (frameOf b 0)) tallies))
+Inv-loop logs block tallies first info k₀ k =
+    (k ≤ 16)
+    × (judged block 0 16 (Block (numberOf (frameOf block 0)) tallies) ≡ judged block k (16 - k) (Block (numberOf (frameOf block 0)) tallies))
 
 abbrev μ-loop : tie.MeasureT-loop
-μ-loop t b tallies first info k₀ k = 16 - k
+μ-loop logs block tallies first info k₀ k = 16 - k
 
 frame-at-requires : tie.Need-frame-at-requires Inv-loop μ-loop
 frame-at-requires c κs = search needs
@@ -46,10 +48,18 @@ check-number-requires c κs = search needs
 
 returns : tie.Need-returns Inv-loop μ-loop
 returns c =
-    let ys = c .before .before .before .before .before .before .before .before .before .before .args .b .now in
-    let l = c .before .before .before .before .before .loop in
-    let a = Block (numberOf (frameOf ys 0)) (c .before .before .before .before .before .before .before .before .before .before .args .tallies) in
-    let n = fault-is ys (l .k) (c .before .before .before .before .before .before .before .before .frame-at .result) (c .before .before .before .frame-at2 .result) (c .before .before .before .before .before .before .sector-number .result) _ _ (c .before .before .before .before .before .before .before .before .frame-at .ensures) (c .before .before .before .before .before .before .sector-number .ensures) refl (c .before .before .before .frame-at2 .ensures) (c .before .check-number .ensures ∙ c .before .before .check-frame .ensures) in
+    let framed = c .before .before .before in
+    let turn = framed .before .before in
+    let numbered = turn .before in
+    let read = numbered .before .before in
+    let start = read .before .before in
+    let ys = start .args .block .now in
+    let l = turn .loop in
+    let a = Block (numberOf (frameOf ys 0)) (start .args .tallies) in
+    let number = c .before .check-number .ensures ∙ c .before .before .check-frame .ensures in
+    let n =
+    fault-is ys (l .k) (read .frame-at .result) (framed .frame-at2 .result) (numbered .sector-number .result) _ _ (read .frame-at .ensures)
+    (numbered .sector-number .ensures) refl (framed .frame-at2 .ensures) number in
     ap (λ (x : ℕ). FrameRefused x (l .k)) n ∙ sym (l .inv .1 ∙ frame-fails ys (l .k) a (omega arith) (λ e. c .if1 .taken (n ∙ e)))
 
 add-k : tie.Need-add-k Inv-loop μ-loop
@@ -60,20 +70,30 @@ loop-less c = omega arith
 
 loop-again : tie.Need-loop-again Inv-loop μ-loop
 loop-again c =
-    let ys = c .before .before .before .before .before .before .before .before .before .before .args .b .now in
-    let l = c .before .before .before .before .before .loop in
-    let a = Block (numberOf (frameOf ys 0)) (c .before .before .before .before .before .before .before .before .before .before .args .tallies) in
-    let n = fault-is ys (l .k) (c .before .before .before .before .before .before .before .before .frame-at .result) (c .before .before .before .frame-at2 .result) (c .before .before .before .before .before .before .sector-number .result) _ _ (c .before .before .before .before .before .before .before .before .frame-at .ensures) (c .before .before .before .before .before .before .sector-number .ensures) refl (c .before .before .before .frame-at2 .ensures) (c .before .check-number .ensures ∙ c .before .before .check-frame .ensures) in
+    let framed = c .before .before .before in
+    let turn = framed .before .before in
+    let numbered = turn .before in
+    let read = numbered .before .before in
+    let start = read .before .before in
+    let ys = start .args .block .now in
+    let l = turn .loop in
+    let a = Block (numberOf (frameOf ys 0)) (start .args .tallies) in
+    let number = c .before .check-number .ensures ∙ c .before .before .check-frame .ensures in
+    let n =
+    fault-is ys (l .k) (read .frame-at .result) (framed .frame-at2 .result) (numbered .sector-number .result) _ _ (read .frame-at .ensures)
+    (numbered .sector-number .ensures) refl (framed .frame-at2 .ensures) number in
     (omega arith, l .inv .1 ∙ frame-passes ys (l .k) a (omega arith) (sym n ∙ c .if1 .left))
 
 returns-2 : tie.Need-returns-2 Inv-loop μ-loop
 returns-2 c =
-    let s = c .before .before .before .before .before .before .args in
+    let after-frame-at = c .before .before .before .before in
+    let start = after-frame-at .before .before in
+    let s = start .args in
     let l = c .before .loop in
-    let a = Block (numberOf (frameOf (s .b .now) 0)) (s .tallies) in
+    let a = Block (numberOf (frameOf (s .block .now) 0)) (s .tallies) in
     let e : 16 - l .k ≡ 0 = omega arith in
-    ap (λ (x : ℕ). Block x (s .tallies)) (c .before .before .sector-number .ensures ∙ ap numberOf (c .before .before .before .before .frame-at .ensures))
-    ∙ sym (l .inv .1 ∙ judged-none (s .b .now) (l .k) (16 - l .k) a e)
+    ap (λ (x : ℕ). Block x (s .tallies)) (c .before .before .sector-number .ensures ∙ ap numberOf (after-frame-at .frame-at .ensures))
+    ∙ sym (l .inv .1 ∙ judged-none (s .block .now) (l .k) (16 - l .k) a e)
 
 pub judge-frames-spec : {M : Type 1} → statement M
 judge-frames-spec =

@@ -1,62 +1,107 @@
--- `rows::repair_row` meets its contract: taken out and corrected, and stored back where it was not clean. Assumes nothing.
-use mathlib.Core.Path.{_≡_, sym, ap, _∙_}
+-- `rows::repair_row` meets its contract: its sums decide; a row that is no code row is taken out, corrected and stored back. Assumes nothing.
+use mathlib.Core.Path.{sym, ap, _∙_}
+use mathlib.Core.List.{List}
+use Prim.Native.Nat.{ℕ, _*_, _<_}
 use native.Mathlib.Omega.{arith}
-use Rattle.codes.specs.Nearest.{nearest, outcomeOf}
-use Rattle.codes.specs.declared.Outcome.the-variants.{Clean}
-use Rattle.eccblock.specs.Parts.{rowOf}
-use Rattle.repairer.specs.Steps.{rowPlace}
-use Rattle.repairer.proofs.CleanLaws.{clean-code, clean-stored}
-use Rattle.repairer.proofs.Parts.{stored-same}
-use Rattle.repairer.proofs.RowLaws.{row-length, row-bytes, row-byte}
+use lib.ListN.{length, getD}
 use borrow.Author.Needs.{needs}
+use Rattle.lists.specs.Fill.{tabulate}
+use Rattle.codes.specs.Word.{syndrome}
+use Rattle.codes.specs.Nearest.{nearest, outcomeOf}
+use Rattle.bytes.proofs.Copies.{put-stored, stored-same}
+use Rattle.layout.specs.Inner.{rowPlace}
+use Rattle.repairer.specs.declared.words.Axis.the-variants.{Rows}
+use Rattle.repairer.proofs.Along.{syndromes-zero, nearest-size}
 use Rattle.repairer.proofs.rows.repair_row.Statement.{statement}
 use Rattle.repairer.proofs.rows.repair_row.Tie as tie
 
-row-at-requires : tie.Need-row-at-requires
-row-at-requires c κs = search needs
+row-syndromes-requires : tie.Need-row-syndromes-requires
+row-syndromes-requires c κs = search needs
 
-correct-row-with-requires : tie.Need-correct-row-with-requires
-correct-row-with-requires c κs = search needs
+slice-aggregate-all-zero : tie.Need-slice-aggregate-all-zero
+slice-aggregate-all-zero c = search needs
 
-enum-told : tie.Need-enum-told
-enum-told c = search needs
+all-zero-requires : tie.Need-all-zero-requires
+all-zero-requires c κs = search needs
 
 same-length : tie.Need-same-length
 same-length c = search needs
 
 returns : tie.Need-returns
 returns c =
-    let s = c .before .before .before .before .before .before in
-    let xs = s .args .b .now in
-    let w = rowOf xs (s .args .q) in
-    let r = c .before .before .correct-row-with .ensures in
-    let o : outcomeOf 10 5 w ≡ Clean = sym (r .1 ∙ ap (outcomeOf 10 5) (c .before .before .before .row-at .ensures)) ∙ c .enum-told .given .1 in (
-      sym o,
-      clean-stored 10 5 w (row-bytes xs (λ k. omega (arith, c .before .before .before .before .before .slice-known .given k)) (s .args .q)) (omega (arith, row-length xs (s .args .q) (s .pre .2) (s .pre .3))) (omega arith) (clean-code 10 5 w o) (rowPlace (s .args .q)) xs 182
-          (λ i l. sym (row-byte xs (s .args .q) i l)),
-    )
+    let summed = c .before .before .before in
+    let known = summed .before .before in
+    let start = known .before in
+    let xs = start .args .block .now in
+    let small : (i : ℕ) → getD xs i 0 < 256 = λ i. omega (arith, known .slice-known .given i) in
+    syndromes-zero Rows xs (start .args .q) (start .pre .2) small (start .pre .3) _ (summed .row-syndromes .ensures) _ (c .before .all-zero .ensures)
+    (c .if1 .taken)
 
-store-row-requires : tie.Need-store-row-requires
-store-row-requires c κs = search needs
+row-at-requires : tie.Need-row-at-requires
+row-at-requires c κs = search needs
+
+correct-row-from-requires : tie.Need-correct-row-from-requires
+correct-row-from-requires c κs =
+    let dirty = c .before .before in
+    let summed = dirty .before .before .before in
+    let start = summed .before .before .before in
+    (start .pre .0, start .pre .1, summed .row-syndromes .ensures ∙ ap (λ (w : List ℕ). tabulate (syndrome w) 10) (sym (c .row-at .ensures)))
+
+mul-put : tie.Need-mul-put
+mul-put c = search needs
+
+slice-aggregate-put : tie.Need-slice-aggregate-put
+slice-aggregate-put c = search needs
+
+put-requires : tie.Need-put-requires
+put-requires c κs =
+    let corrected = c .before .before .before in
+    let taken = corrected .before in
+    let dirty = taken .before .before in
+    let summed = dirty .before .before .before in
+    let known = summed .before .before in
+    let start = known .before in
+    let xs = start .args .block .now in
+    let small : (i : ℕ) → getD xs i 0 < 256 = λ i. omega (arith, known .slice-known .given i) in
+    let near = corrected .correct-row-from .ensures .0 ∙ ap (nearest 10 5) (taken .row-at .ensures) in
+    let l = ap length near ∙ nearest-size Rows xs (start .args .q) (start .pre .2) small (start .pre .3) in
+    omega (arith, l, start .pre .2, start .pre .3)
 
 same-length-2 : tie.Need-same-length-2
 same-length-2 c = search needs
 
 returns-2 : tie.Need-returns-2
 returns-2 c =
-    let w = c .before .before .before .before .before .before .before .before .row-at .ensures in
-    let r = c .before .before .before .before .before .before .before .correct-row-with .ensures in
-    (r .1 ∙ ap (outcomeOf 10 5) w, stored-same (rowPlace (c .before .before .before .before .before .before .before .before .before .before .before .args .q)) _ _ _ _ 182 (r .0 ∙ ap (nearest 10 5) w) (c .before .before .store-row .ensures))
+    let put = c .before .before in
+    let corrected = put .before .before .before .before in
+    let taken = corrected .before in
+    let dirty = taken .before .before in
+    let summed = dirty .before .before .before in
+    let known = summed .before .before in
+    let start = known .before in
+    let xs = start .args .block .now in
+    let small : (i : ℕ) → getD xs i 0 < 256 = λ i. omega (arith, known .slice-known .given i) in
+    let q = start .args .q in
+    let r = corrected .correct-row-from .ensures in
+    let w = taken .row-at .ensures in
+    let near = r .0 ∙ ap (nearest 10 5) w in
+    let l = ap length near ∙ nearest-size Rows xs (start .args .q) (start .pre .2) small (start .pre .3) in
+    let stored = put-stored _ xs _ (q * 182) 182 l (omega (arith, start .pre .2, start .pre .3)) (put .put .ensures) in
+    (r .1 ∙ ap (outcomeOf 10 5) w, stored-same (rowPlace q) _ _ _ _ 182 near stored)
 
 pub repair-row-spec : {M : Type 1} → statement M
 repair-row-spec =
     tie.close
     (tie.spec
-    row-at-requires
-    correct-row-with-requires
-    enum-told
+    row-syndromes-requires
+    slice-aggregate-all-zero
+    all-zero-requires
     same-length
     returns
-    store-row-requires
+    row-at-requires
+    correct-row-from-requires
+    mul-put
+    slice-aggregate-put
+    put-requires
     same-length-2
     returns-2)

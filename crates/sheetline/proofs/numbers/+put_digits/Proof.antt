@@ -1,10 +1,10 @@
 -- The proof of the cycle of calls {put_digits}. The measure is k. Assumes nothing.
-use mathlib.Core.List.{List, [], _∷_, _++_}
-use mathlib.Core.Path.{_≡_, refl, sym, ap, _∙_}
-use Prim.Native.Nat.{ℕ, _<_, _≤_, _-_, _+_, _/_, _%_}
+use mathlib.Core.List.{List, [], _∷_}
+use mathlib.Core.Path.{sym, ap, _∙_}
+use Prim.Native.Nat.{ℕ, _<_, _-_, _+_, _/_, _%_}
 use native.Mathlib.Omega.{arith}
 use lib.ListN.{length, length-set, length-append}
-use lib.Seq.{sets, length-sets}
+use lib.Seq.{sets}
 use Rattle.sheetline.specs.Line.{lastDigits}
 use Rattle.sheetline.proofs.Laying.{sets-append}
 use Rattle.sheetline.proofs.Digits.{digits-none, digits-one, digits-more, digits-most}
@@ -110,7 +110,8 @@ put-digits-slice-write-out-2 : (t : ℕ) → put-digits-lts.Need-slice-write-out
   put-digits.Post,
 ) (put-digits-at t) put-digits.Post
 put-digits-slice-write-out-2 t c =
-    let a = c .before .before .before .before .before .before .before .args in
+    let more = c .before .before .before .before in
+    let a = more .before .before .before .args in
     omega (arith, digits-most (a .k - 1) (a .n / 10))
 
 put-digits-add-result-2 : (t : ℕ) → put-digits-lts.Need-add-result-2 (
@@ -118,7 +119,8 @@ put-digits-add-result-2 : (t : ℕ) → put-digits-lts.Need-add-result-2 (
   put-digits.Post,
 ) (put-digits-at t) put-digits.Post
 put-digits-add-result-2 t c =
-    let a = c .before .before .before .before .before .before .before .args in
+    let more = c .before .before .before .before in
+    let a = more .before .before .before .args in
     omega (arith, digits-most (a .k - 1) (a .n / 10))
 
 put-digits-same-length-2 : (t : ℕ) → put-digits-lts.Need-same-length-2 (
@@ -132,15 +134,17 @@ put-digits-returns-3 : (t : ℕ) → put-digits-lts.Need-returns-3 (
   put-digits.Post,
 ) (put-digits-at t) put-digits.Post
 put-digits-returns-3 t c =
-    let a = c .before .before .before .before .before .before .before .args in
+    let more = c .before .before .before .before in
+    let a = more .before .before .before .args in
     let front = lastDigits (a .k - 1) (a .n / 10) in
     let end = (48 + a .n % 10) ∷ [] in
-    let e = digits-more (a .k) (a .n) (omega arith) (c .before .before .before .before .if2 .left) in
+    let e = digits-more (a .k) (a .n) (omega arith) (more .if2 .left) in
+    let called = c .before .before .put-digits in
     record {
       place = omega (arith, ap length e, length-append front end);
       bytes =
-          ap (λ (x : List ℕ). sets x (c .before .before .put-digits .result) end) (c .before .before .put-digits .ensures .bytes)
-          ∙ ap (λ (k : ℕ). sets (sets (a .out .now) (a .at) front) k end) (c .before .before .put-digits .ensures .place)
+          ap (λ (x : List ℕ). sets x (called .result) end) (called .ensures .bytes)
+          ∙ ap (λ (k : ℕ). sets (sets (a .out .now) (a .at) front) k end) (called .ensures .place)
           ∙ sets-append front end (a .out .now) (a .at)
           ∙ ap (λ (t : List ℕ). sets (a .out .now) (a .at) t) (sym e);
     }

@@ -6,10 +6,10 @@ use Rattle.trials.proofs.compare.read_back.Statement.{statement}
 use Rattle.trials.proofs.compare.read_back.Tie as tie
 
 abbrev Inv-loop : tie.InvT-loop
-Inv-loop s bytes after n₀ i₀ i-end n i = (i ≤ length bytes) × (n ≤ i)
+Inv-loop stream bytes after n₀ i₀ i-end n i = (i ≤ length bytes) × (n ≤ i)
 
 abbrev μ-loop : tie.MeasureT-loop
-μ-loop s bytes after n₀ i₀ i-end n i = length bytes - i
+μ-loop stream bytes after n₀ i₀ i-end n i = length bytes - i
 
 returns : tie.Need-returns Inv-loop μ-loop
 returns c = search needs
@@ -17,17 +17,14 @@ returns c = search needs
 loop-holds : tie.Need-loop-holds Inv-loop μ-loop
 loop-holds c = search needs
 
-mul-at : tie.Need-mul-at Inv-loop μ-loop
-mul-at c = search needs
+mul-k : tie.Need-mul-k Inv-loop μ-loop
+mul-k c = search needs
 
-add-at : tie.Need-add-at Inv-loop μ-loop
-add-at c = search needs
+add-k : tie.Need-add-k Inv-loop μ-loop
+add-k c = search needs
 
-add-at-2 : tie.Need-add-at-2 Inv-loop μ-loop
-add-at-2 c = search needs
-
-mul-at-2 : tie.Need-mul-at-2 Inv-loop μ-loop
-mul-at-2 c = search needs
+add-k-2 : tie.Need-add-k-2 Inv-loop μ-loop
+add-k-2 c = search needs
 
 shared-slice-read-is-read : tie.Need-shared-slice-read-is-read Inv-loop μ-loop
 shared-slice-read-is-read c = search needs
@@ -58,10 +55,9 @@ read-back-spec =
     μ-loop
     returns
     loop-holds
-    mul-at
-    add-at
-    add-at-2
-    mul-at-2
+    mul-k
+    add-k
+    add-k-2
     shared-slice-read-is-read
     is-read-requires
     add-n

@@ -1,3 +1,5 @@
+-- `writer::refusal::closing_refusal` meets its contract.
+-- Assumes nothing.
 use mathlib.Core.Path.{refl}
 use mathlib.Core.Bool.{false}
 use borrow.Author.Tests.{ne-eqb}
@@ -7,7 +9,9 @@ use Rattle.writer.proofs.refusal.closing_refusal.Statement.{statement}
 use Rattle.writer.proofs.refusal.closing_refusal.Tie as tie
 
 returns : tie.Need-returns
-returns c = let a = c .before .args in closing-by (a .w) (a .to) false _ _ _ (ne-eqb _ _ (c .if1 .taken)) refl refl refl
+returns c =
+    let a = c .before .args in
+    closing-by (a .current) (a .to) false _ _ _ (ne-eqb _ _ (c .if1 .taken)) refl refl refl
 
 is-sound-requires : tie.Need-is-sound-requires
 is-sound-requires c κs = search needs
@@ -19,7 +23,8 @@ returns-2 : tie.Need-returns-2
 returns-2 c =
     let sounded = c .before .before in
     let a = sounded .before .before .args in
-    closing-by-state (a .w) (a .to) _ _ (sounded .before .if1 .left) (sounded .is-sound .ensures) (c .state-refusal .ensures)
+    closing-by-state (a .current) (a .to) _ _ (sounded .before .if1 .left) (sounded .is-sound .ensures)
+    (c .state-refusal .ensures)
 
 pub closing-refusal-spec : {M : Type 1} → statement M
 closing-refusal-spec =

@@ -1,3 +1,5 @@
+-- `writer::refusal::is_ended` meets its contract.
+-- Assumes nothing.
 use mathlib.Core.Path.{refl}
 use Rattle.writer.proofs.refusal.is_ended.Statement.{statement}
 use Rattle.writer.proofs.refusal.is_ended.Tie as tie

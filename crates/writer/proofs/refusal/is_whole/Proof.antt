@@ -1,3 +1,5 @@
+-- `writer::refusal::is_whole` meets its contract.
+-- Assumes nothing.
 use mathlib.Core.Path.{refl}
 use Rattle.writer.proofs.refusal.is_whole.Statement.{statement}
 use Rattle.writer.proofs.refusal.is_whole.Tie as tie

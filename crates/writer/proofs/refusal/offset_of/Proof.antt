@@ -1,3 +1,5 @@
+-- `writer::refusal::offset_of` meets its contract.
+-- Assumes nothing.
 use mathlib.Core.Path.{refl}
 use native.Mathlib.Omega.{arith}
 use lib.IntN.{pos}
@@ -9,15 +11,22 @@ use Rattle.writer.proofs.refusal.offset_of.Statement.{statement}
 use Rattle.writer.proofs.refusal.offset_of.Tie as tie
 
 add-result : tie.Need-add-result
-add-result c = rw (toZ-ofZ w64 (c .args .d) (c .fits .d), up (c .args .d) (c .pre)) (fits-abs (pos (offset (c .args .d))) (offset-small (c .args .d) (c .pre)))
+add-result c =
+    let d = c .args .dsv in
+    rw (toZ-ofZ w64 d (c .fits .dsv), up d (c .pre)) (fits-abs (pos (offset d)) (offset-small d (c .pre)))
 
 cast-result : tie.Need-cast-result
 cast-result c =
-    rw (toZ-ofZ w64 (c .args .d) (c .fits .d), up (c .args .d) (c .pre), toZ-ofZ w64 (pos (offset (c .args .d))) (fits-abs (pos (offset (c .args .d))) (offset-small (c .args .d) (c .pre))))
-    (tt, record { fits = omega (arith, offset-small (c .args .d) (c .pre)) })
+    let d = c .args .dsv in
+    let small = offset-small d (c .pre) in
+    rw (toZ-ofZ w64 d (c .fits .dsv), up d (c .pre), toZ-ofZ w64 (pos (offset d)) (fits-abs (pos (offset d)) small))
+    (tt, record { fits = omega (arith, small) })
 
 returns : tie.Need-returns
-returns c = rw (toZ-ofZ w64 (c .args .d) (c .fits .d), up (c .args .d) (c .pre), toZ-ofZ w64 (pos (offset (c .args .d))) (fits-abs (pos (offset (c .args .d))) (offset-small (c .args .d) (c .pre)))) refl
+returns c =
+    let d = c .args .dsv in
+    let small = offset-small d (c .pre) in
+    rw (toZ-ofZ w64 d (c .fits .dsv), up d (c .pre), toZ-ofZ w64 (pos (offset d)) (fits-abs (pos (offset d)) small)) refl
 
 pub offset-of-spec : {M : Type 1} → statement M
 offset-of-spec = tie.close (tie.spec add-result cast-result returns)

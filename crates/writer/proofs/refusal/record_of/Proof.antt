@@ -1,3 +1,5 @@
+-- `writer::refusal::record_of` meets its contract.
+-- Assumes nothing.
 use mathlib.Core.Path.{ap, _∙_}
 use lib.IntN.{ℤ}
 use mir.Syntax.{w64}
@@ -12,7 +14,8 @@ signed-of-requires c κs = search needs
 returns : tie.Need-returns
 returns c =
     let a = c .before .args in
-    ap (λ (d : ℤ). record { state = a .r .state; level = a .r .level; dsv = d; sectors = a .sectors; closed = a .closed })
+    let r = a .running in
+    ap (λ (d : ℤ). record { state = r .state; level = r .level; dsv = d; sectors = a .sectors; closed = a .closed })
     (toZ-ofZ w64 (c .signed-of .result) (record { sfits = c .signed-of .ok }) ∙ c .signed-of .ensures)
 
 pub record-of-spec : {M : Type 1} → statement M

@@ -1,3 +1,5 @@
+-- `writer::refusal::sector_refusal` meets its contract.
+-- Assumes nothing.
 use mathlib.Core.Path.{refl}
 use mathlib.Core.Bool.{true, false}
 use borrow.Author.Tests.{eq-eqb, ne-eqb}
@@ -7,10 +9,16 @@ use Rattle.writer.proofs.refusal.sector_refusal.Statement.{statement}
 use Rattle.writer.proofs.refusal.sector_refusal.Tie as tie
 
 returns : tie.Need-returns
-returns c = let a = c .before .args in sector-by (a .w) (a .from) (a .to) false _ _ _ _ (ne-eqb _ _ (c .if1 .taken)) refl refl refl refl
+returns c =
+    let a = c .before .args in
+    sector-by (a .current) (a .from) (a .to) false _ _ _ _ (ne-eqb _ _ (c .if1 .taken)) refl refl refl refl
 
 returns-2 : tie.Need-returns-2
-returns-2 c = let a = c .before .before .args in sector-by (a .w) (a .from) (a .to) true false _ _ _ (eq-eqb _ _ (c .before .if1 .left)) (ne-eqb _ _ (c .if2 .taken)) refl refl refl
+returns-2 c =
+    let measured = c .before in
+    let a = measured .before .args in
+    sector-by (a .current) (a .from) (a .to) true false _ _ _ (eq-eqb _ _ (measured .if1 .left)) (ne-eqb _ _ (c .if2 .taken))
+    refl refl refl
 
 is-sound-requires : tie.Need-is-sound-requires
 is-sound-requires c κs = search needs
@@ -26,7 +34,8 @@ returns-3 c =
     let sounded = c .before .before in
     let measured = sounded .before in
     let a = measured .before .before .args in
-    sector-by-state (a .w) (a .from) (a .to) _ _ _ (measured .before .if1 .left) (measured .if2 .left) (sounded .is-sound .ensures) (c .before .is-ended .ensures) (c .state-refusal .ensures)
+    sector-by-state (a .current) (a .from) (a .to) _ _ _ (measured .before .if1 .left) (measured .if2 .left)
+    (sounded .is-sound .ensures) (c .before .is-ended .ensures) (c .state-refusal .ensures)
 
 pub sector-refusal-spec : {M : Type 1} → statement M
 sector-refusal-spec =

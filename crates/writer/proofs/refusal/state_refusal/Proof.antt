@@ -1,3 +1,5 @@
+-- `writer::refusal::state_refusal` meets its contract.
+-- Assumes nothing.
 use mathlib.Core.Path.{refl}
 use borrow.Author.Tests.{not-true, not-false}
 use Rattle.writer.proofs.refusal.state_refusal.Statement.{statement}

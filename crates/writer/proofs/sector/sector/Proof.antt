@@ -1,3 +1,5 @@
+-- `writer::sector::sector` meets its contract.
+-- Assumes nothing.
 use borrow.Author.Needs.{needs}
 use Rattle.writer.proofs.sector.sector.Statement.{statement}
 use Rattle.writer.proofs.sector.sector.Tie as tie
@@ -21,7 +23,8 @@ slice-aggregate-frames-2 : tie.Need-slice-aggregate-frames-2
 slice-aggregate-frames-2 c = search needs
 
 frames-requires : tie.Need-frames-requires
-frames-requires c κs = (search needs, (search needs, (search needs, (search needs, (search needs, (search needs, search needs))))))
+frames-requires c κs =
+    (search needs, (search needs, (search needs, (search needs, (search needs, (search needs, search needs))))))
 
 same-length : tie.Need-same-length
 same-length c = search needs

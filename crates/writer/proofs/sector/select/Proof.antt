@@ -1,3 +1,5 @@
+-- `writer::sector::select` meets its contract.
+-- Assumes nothing.
 use native.Mathlib.Omega.{arith}
 use lib.ListN.{length-take}
 use Rattle.writer.proofs.sector.select.Statement.{statement}

@@ -1,0 +1,3 @@
+pub mod SectorLoop
+pub mod Numbers
+pub mod Answers

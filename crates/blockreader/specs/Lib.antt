@@ -1,0 +1,2 @@
+pub mod BlockReader
+pub mod Inner

@@ -1,0 +1,4 @@
+pub mod Lengths
+pub mod Rows
+pub mod Sectors
+pub mod Inner

@@ -1,3 +1,0 @@
-pub mod Scanning
-pub mod AllRuns
-pub mod Zeros

@@ -1,0 +1,6 @@
+pub mod Chain
+pub mod ReadBytes
+pub mod Demand
+pub mod Undamaged
+pub mod FormatBack
+pub mod Trials
