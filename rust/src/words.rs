@@ -129,6 +129,7 @@ pub fn product(a: u8, b: u8) -> u8 {
 /// ```
 /// assert_eq!(chamanzil::power(2, 8), 0x1D);
 /// assert_eq!(chamanzil::power(2, 255), 1);
+/// assert_eq!(chamanzil::power(2, 1 << 63), 0x85);
 /// ```
 #[must_use]
 pub fn power(a: u8, n: u64) -> u8 {

@@ -1,5 +1,5 @@
 //! The field and the codes of the library against the second implementation.
-use crate::gf::{slow_product, Field};
+use crate::gf::{slow_power, slow_product, Field};
 use crate::library;
 use crate::random::Random;
 use crate::report::Report;
@@ -19,14 +19,18 @@ pub fn field(report: &mut Report, random: &mut Random) {
     report.end();
     report.begin("field: power");
     let mut compare = |a: u8, n: u64| {
-        let (ours, theirs) = (library::power(a, n), f.power(a, n));
-        report.check(ours == theirs, || format!("{a}^{n}: {ours} for {theirs}"));
+        let (ours, theirs) = (library::power(a, n), slow_power(a, n));
+        report.check(ours == theirs && theirs == f.power(a, n), || {
+            format!("{a}^{n}: {ours} for {theirs}")
+        });
     };
     for a in 0..=255u8 {
+        [0, 1, 254, 255, 256, 1 << 63, u64::MAX].into_iter().for_each(|n| compare(a, n));
+        // twice round the order of the elements, and each bit alone
         (0..520).for_each(|n| compare(a, n));
-        (0..20).for_each(|_| compare(a, random.next()));
-        compare(a, u64::MAX);
+        (0..64).for_each(|bit| compare(a, 1 << bit));
     }
+    (0..20_000).for_each(|_| compare(random.byte(), random.next()));
     report.end();
 }
 

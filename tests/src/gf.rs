@@ -16,6 +16,15 @@ pub fn slow_product(a: u8, b: u8) -> u8 {
     wide as u8
 }
 
+/// a to the power n by document 01's definition, recursion on halves of the exponent.
+pub fn slow_power(a: u8, n: u64) -> u8 {
+    if n == 0 {
+        return 1;
+    }
+    let half = slow_power(a, n / 2);
+    slow_product(slow_product(half, half), if n % 2 == 1 { a } else { 1 })
+}
+
 pub struct Field {
     log: [usize; 256],
     exp: [u8; 510],

@@ -1,6 +1,6 @@
 -- The laws of powers: by one more factor, and so of sums and products of exponents.
 -- Assumes nothing.
-use mathlib.Core.Path.{_≡_, refl, sym, ap, ap₂, _∙_, subst}
+use mathlib.Core.Path.{_≡_, refl, sym, ap, ap₂, _∙_, subst, _≡⟨_⟩_, _∎}
 use mathlib.Core.Bool.{not}
 use mathlib.Core.Logic.{_≢_}
 use Prim.Native.Nat.{ℕ, zero, suc, _+_, _-_, _/_, _%_, _<_, _≤_}
@@ -13,7 +13,7 @@ use lib.Arith.{bin-ind, half-le}
 use Rattle.field.specs.Field.{add, double, mulBits, mul, square, oddFactor, powHalves, pow}
 use Rattle.lists.specs.Test.{below}
 use Rattle.lists.proofs.Test.{below-at}
-use Rattle.field.proofs.Field.{bit-cases, bit, mul-lt, mul-left-comm, mul-swap, one-mul, mul-one, zero-of-mul, mul-cancel}
+use Rattle.field.proofs.Field.{bit-cases, bit, mul-lt, mul-assoc, mul-left-comm, mul-swap, one-mul, mul-one, zero-of-mul, mul-cancel}
 
 -- ---- halves to go beyond the exponent's own change nothing
 
@@ -130,20 +130,21 @@ powers-differ i j h l e =
     (mul-cancel (pow 2 i) (pow 2 (j - i)) 1 (alpha-lt i) (alpha-lt (j - i)) (omega arith) (alpha-nonzero i)
     (sym (pow-add 2 alpha i (j - i)) ∙ ap (pow 2) (omega arith) ∙ sym e ∙ sym (mul-one (pow 2 i) (alpha-lt i))))
 
--- ---- the power as a function that calls itself computes it
+-- ---- a turn of the loop along the exponent's bits, low bit first: p is the accumulator, b the base, n the bits left, and p · b^n stays what it was
 
-pow-step : (a n : ℕ) → 0 < n → pow a n ≡ mul (square (pow a (n / 2))) (oddFactor (n % 2) a)
-unfolding pow powHalves
-pow-step a zero h = absurd (not-suc-le-zero h)
-pow-step a (suc n) h = ap (λ (x : ℕ). mul (square x) (oddFactor (suc n % 2) a)) (enough n a (suc n / 2) (half-le (le-refl (suc n))))
+pow-square : (a : ℕ) → a < 256 → (n : ℕ) → pow (mul a a) n ≡ pow a (n + n)
+pow-square a ha n = pow-mul a a ha ha n ∙ sym (pow-add a ha n n)
 
-pub pow-even : (a n h : ℕ) → 0 < n → n % 2 ≡ 0 → a < 256 → h ≡ pow a (n / 2) → mul h h ≡ pow a n
-unfolding square
-pow-even a n h p q l e =
-    ap (λ (x : ℕ). mul x x) e ∙ sym (mul-one (mul (pow a (n / 2)) (pow a (n / 2))) (mul-lt (pow a (n / 2)) (pow a (n / 2)))) ∙ ap (λ (d : ℕ). mul (mul (pow a (n / 2)) (pow a (n / 2))) (oddFactor d a)) (sym q)
-    ∙ sym (pow-step a n p)
+pub mul-pow-even : (p b n : ℕ) → b < 256 → n % 2 ≡ 0 → mul p (pow (mul b b) (n / 2)) ≡ mul p (pow b n)
+mul-pow-even p b n hb even =
+    mul p (pow (mul b b) (n / 2)) ≡⟨ ap (mul p) (pow-square b hb (n / 2)) ⟩
+    mul p (pow b (n / 2 + n / 2)) ≡⟨ ap (λ (k : ℕ). mul p (pow b k)) (omega arith) ⟩
+    mul p (pow b n) ∎
 
-pub pow-odd : (a n h : ℕ) → 0 < n → n % 2 ≡ 1 → h ≡ pow a (n / 2) → mul (mul h h) a ≡ pow a n
-unfolding square
-pow-odd a n h p q e =
-    ap (λ (x : ℕ). mul (mul x x) a) e ∙ ap (λ (d : ℕ). mul (mul (pow a (n / 2)) (pow a (n / 2))) (oddFactor d a)) (sym q) ∙ sym (pow-step a n p)
+pub mul-pow-odd : (p b n : ℕ) → b < 256 → n % 2 ≡ 1 → mul (mul p b) (pow (mul b b) (n / 2)) ≡ mul p (pow b n)
+mul-pow-odd p b n hb odd =
+    mul (mul p b) (pow (mul b b) (n / 2)) ≡⟨ mul-assoc p b (pow (mul b b) (n / 2)) ⟩
+    mul p (mul b (pow (mul b b) (n / 2))) ≡⟨ ap (λ (x : ℕ). mul p (mul b x)) (pow-square b hb (n / 2)) ⟩
+    mul p (mul b (pow b (n / 2 + n / 2))) ≡⟨ ap (mul p) (sym (pow-suc b hb (n / 2 + n / 2))) ⟩
+    mul p (pow b (suc (n / 2 + n / 2))) ≡⟨ ap (λ (k : ℕ). mul p (pow b k)) (omega arith) ⟩
+    mul p (pow b n) ∎

@@ -46,21 +46,25 @@ pub fn inverse_of(logs: &[u8; 768], a: u8) -> u8
     logs[256 + (255 - i)]
 }
 
-// a to the power n, by halves of n.
+// a to the power n, along the bits of n from the lowest on: where the bit is one the base is multiplied in, and for the next bit it is squared. At the head of
+// each turn
+//     accumulator × base^left = a^n,
+// left being what is left of n. With no bit left base^0 is 1, and the accumulator is the power.
 pub fn power(logs: &[u8; 768], a: u8, n: u64) -> u8
     requires { ⌜ LogTable (now logs) ⌝ }
     ensures { λ r. ⌜ r ≡ pow a n ⌝ }
 {
-    if n == 0 {
-        return 1;
+    let mut accumulator: u8 = 1;
+    let mut base: u8 = a;
+    let mut left: u64 = n;
+    while 0 < left {
+        if left % 2 == 1 {
+            accumulator = product(logs, accumulator, base);
+        }
+        base = product(logs, base, base);
+        left /= 2;
     }
-    let half = power(logs, a, n / 2);
-    let squared = product(logs, half, half);
-    if n % 2 == 0 {
-        squared
-    } else {
-        product(logs, squared, a)
-    }
+    accumulator
 }
 
 // Entry a is the logarithm of a to the base α (0 has none: entry 0 is 0); entry 256 + i is α^i, i up to 511. In hexadecimal: entry 0, and α^8.
