@@ -1,4 +1,4 @@
--- The laws of powers: by one more factor, and so of sums and products of exponents.
+-- The laws of powers: by one more factor, and so of sums and products of exponents, and along the bits of an exponent.
 -- Assumes nothing.
 use mathlib.Core.Path.{_≡_, refl, sym, ap, ap₂, _∙_, subst, _≡⟨_⟩_, _∎}
 use mathlib.Core.Bool.{not}

@@ -38,17 +38,17 @@ loop-again c =
     let l = c .before .before .before .loop in
     let squared = c .product2 .ensures in
     ⊎-elim
-    (λ one. (
-      omega (arith, one .2),
+    (λ is-one. (
+      omega (arith, is-one .2),
       omega arith,
-      ap₂ (λ x y. mul x (pow y (l .left / 2))) (one .2 ∙ one .1 .ensures) squared
-          ∙ mul-pow-odd (l .accumulator) (l .base) (l .left) (l .inv .1) (one .0 .taken) ∙ l .inv .2,
+      ap₂ (λ x y. mul x (pow y (l .left / 2))) (is-one .2 ∙ is-one .1 .ensures) squared
+          ∙ mul-pow-odd (l .accumulator) (l .base) (l .left) (l .inv .1) (is-one .0 .taken) ∙ l .inv .2,
     ))
-    (λ none. (
-      omega (arith, none .1),
+    (λ is-zero. (
+      omega (arith, is-zero .1),
       omega arith,
-      ap₂ (λ x y. mul x (pow y (l .left / 2))) (none .1) squared
-          ∙ mul-pow-even (l .accumulator) (l .base) (l .left) (l .inv .1) (omega (arith, none .0 .left)) ∙ l .inv .2,
+      ap₂ (λ x y. mul x (pow y (l .left / 2))) (is-zero .1) squared
+          ∙ mul-pow-even (l .accumulator) (l .base) (l .left) (l .inv .1) (omega (arith, is-zero .0 .left)) ∙ l .inv .2,
     ))
     (c .before .if1 .came)
 
@@ -56,8 +56,8 @@ loop-again c =
 returns : tie.Need-returns Inv-loop μ-loop
 returns c =
     let l = c .before .loop in
-    let none : l .left ≡ 0 = omega arith in
-    sym (ap (λ (k : ℕ). mul (l .accumulator) (pow (l .base) k)) none ∙ ap (mul (l .accumulator)) (pow-zero (l .base))
+    let ended : l .left ≡ 0 = omega arith in
+    sym (ap (λ (k : ℕ). mul (l .accumulator) (pow (l .base) k)) ended ∙ ap (mul (l .accumulator)) (pow-zero (l .base))
     ∙ mul-one (l .accumulator) (l .inv .0)) ∙ l .inv .2
 
 pub power-spec : {M : Type 1} → statement M
