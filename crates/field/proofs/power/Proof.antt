@@ -12,7 +12,8 @@ use Rattle.field.proofs.power.Tie as tie
 
 -- accumulator and base are elements, and accumulator · base^left = a^n
 abbrev Inv-loop : tie.InvT-loop
-Inv-loop logs a n accumulator₀ base₀ left₀ accumulator base left = (accumulator < 256) × (base < 256) × (mul accumulator (pow base left) ≡ pow a n)
+Inv-loop logs a n accumulator₀ base₀ left₀ accumulator base left =
+    (accumulator < 256) × (base < 256) × (mul accumulator (pow base left) ≡ pow a n)
 
 abbrev μ-loop : tie.MeasureT-loop
 μ-loop logs a n accumulator₀ base₀ left₀ accumulator base left = left
@@ -32,7 +33,8 @@ product-requires-2 c κs = search needs
 loop-less : tie.Need-loop-less Inv-loop μ-loop
 loop-less c = omega arith
 
--- a bit that is one: (accumulator · base) · (base²)^(left/2) = accumulator · base^left; a bit that is zero: the same without the factor
+-- a bit that is one: (accumulator · base) · (base²)^(left/2) = accumulator · base^left
+-- a bit that is zero: accumulator · (base²)^(left/2) = accumulator · base^left
 loop-again : tie.Need-loop-again Inv-loop μ-loop
 loop-again c =
     let l = c .before .before .before .loop in
