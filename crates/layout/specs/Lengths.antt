@@ -1,5 +1,5 @@
--- The lengths of the format, each once: of a Data Frame, of a block and its rows, of a sector and a block on the channel. The code has them by the same names in
--- capitals (src/lib.rt). In bytes where nothing else is said.
+-- The lengths of the format, each once: of a Data Frame, of a block and its rows, of a sector and a block on the channel, of a run. The code has them by the same
+-- names in capitals (src/lib.rt). In bytes where nothing else is said.
 -- Assumes nothing.
 use Prim.Native.Nat.{ℕ}
 
@@ -114,3 +114,9 @@ streamSize = 77380
 
 abbrev pub streamBits : ℕ
 streamBits = 619040
+
+-- ---- a run of blocks (document 02, request 1)
+
+-- the most sectors of a run, 2^24: as many as there are sector numbers
+abbrev pub runSectors : ℕ
+runSectors = 16777216

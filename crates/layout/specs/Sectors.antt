@@ -2,11 +2,12 @@
 --   frameCodes, codeOf    the SYNC Codes of a sector's frames, and of frame f
 --   halfOf                the half word of byte i
 --   sectorPart            sector k of a block's stream
+--   blockPart, runSize    block k of a run's stream, and how long the stream of n blocks is
 -- Assumes nothing.
 use mathlib.Core.List.{List, [], _∷_}
 use Prim.Native.Nat.{ℕ, _+_, _*_, _/_, _%_}
 use lib.ListN.{getD, take, drop}
-use Rattle.layout.specs.Lengths.{frameBytes, frameHalves, sectorFrames, sectorStream, sectorRead}
+use Rattle.layout.specs.Lengths.{frameBytes, frameHalves, sectorFrames, sectorStream, sectorRead, sectorsStream, closingSize, streamSize}
 
 -- the SYNC Codes of the 13 rows of a sector: in each row that of the first frame, then that of the second
 unfoldable pub frameCodes : List ℕ
@@ -27,3 +28,11 @@ halfOf i = i / frameBytes * frameHalves + 2 + i % frameBytes
 -- sector k of a block's stream, with the two bytes after it
 abbrev pub sectorPart : List ℕ → ℕ → List ℕ
 sectorPart xs k = take sectorRead (drop (sectorStream * k) xs)
+
+-- block k of a run's stream: its sixteen sectors and the four bytes after them, which are the next block's SYNC Code or the closing code
+abbrev pub blockPart : List ℕ → ℕ → List ℕ
+blockPart xs k = take streamSize (drop (sectorsStream * k) xs)
+
+-- the stream of a run of n blocks, in bytes: their sectors, and the closing code
+abbrev pub runSize : ℕ → ℕ
+runSize n = sectorsStream * n + closingSize

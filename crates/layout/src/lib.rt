@@ -76,6 +76,10 @@ pub const STREAM_SIZE: usize = 77380;
 
 pub const STREAM_BITS: usize = 619040;
 
+// ---- a run of blocks (document 02, request 1)
+
+pub const RUN_SECTORS: u32 = 16777216;
+
 // The SYNC Codes of the 13 rows of a sector, two frames a row.
 const FRAME_CODES: [u8; SECTOR_FRAMES] = [
     0,
