@@ -1,5 +1,4 @@
--- Streams one after the other (stream-append, permitted-append, permitted-cut, state-after), that permitted streams are there (main-permitted), and how long
--- they are (stream-length, and of a block permitted-length).
+-- Streams one after the other (stream-append, permitted-append, permitted-cut, state-after), and how long they are (halves, stream-length, halves-frames).
 -- Assumes nothing.
 use mathlib.Core.Path.{_≡_, refl, sym, ap, ap₂, _∙_}
 use mathlib.Core.Bool.{Bool}
@@ -11,9 +10,8 @@ use lib.Dec.{T}
 use lib.ListN.{length, take, drop}
 use Rattle.lists.proofs.Test.{and-left, and-right, and-both}
 use Rattle.annexg.specs.Read.{State}
-use Rattle.layout.specs.Lengths.{frameBytes, frameHalves, blockSize, blockFrames, streamSize}
-use Rattle.channel.specs.Block.{frames, blockItems, closed, permittedChoices, permittedStream}
-use Rattle.bytes.proofs.Halves.{packed-length}
+use Rattle.layout.specs.Lengths.{frameBytes, frameHalves}
+use Rattle.channel.specs.Block.{frames}
 use Rattle.channel.specs.Channel.{Item, sync, byte, halvesFor, nextFor, lastFor, allowed, permitted, stream, stateAfter, lastAfter, place, proper, allProper}
 use Rattle.channel.proofs.Places.{head-length, tail-length}
 use Rattle.channel.proofs.Reading.{next-state}
@@ -41,9 +39,37 @@ permitted-append s l (i ∷ is) js (c ∷ cs) ds p q =
     and-both (allowed s l i c) (permitted (nextFor s i c) (lastFor s i c) (is ++ js) (cs ++ ds)) (and-left (allowed s l i c) (permitted (nextFor s i c) (lastFor s i c) is cs) p)
     (permitted-append (nextFor s i c) (lastFor s i c) is js cs ds (and-right (allowed s l i c) (permitted (nextFor s i c) (lastFor s i c) is cs) p) q)
 
--- the length of a stream is the place after the last item
-pub stream-length : (s l : ℕ) (is : List Item) (cs : List Bool) → T (permitted s l is cs) → length (stream s is cs) ≡ place is (length is)
-unfolding permitted stream place
+-- permitted choices for items and then others are permitted choices for the ones, and for the others from where the ones end
+pub record Cut (s l : ℕ) (is js : List Item) (cs : List Bool) : Type 0 where
+  pub first : List Bool
+  pub rest : List Bool
+  pub joined : cs ≡ first ++ rest
+  pub first-permitted : T (permitted s l is first)
+  pub rest-permitted : T (permitted (stateAfter s is first) (lastAfter s l is first) js rest)
+
+pub permitted-cut : (s l : ℕ) (is js : List Item) (cs : List Bool) → T (permitted s l (is ++ js) cs) → Cut s l is js cs
+unfolding permitted stateAfter lastAfter
+permitted-cut s l [] js cs p = record { first = []; rest = cs; joined = refl; first-permitted = tt; rest-permitted = p }
+permitted-cut s l (i ∷ is) js [] p = absurd p
+permitted-cut s l (i ∷ is) js (c ∷ cs) p =
+    let now = allowed s l i c in
+    let later = permitted (nextFor s i c) (lastFor s i c) (is ++ js) cs in
+    let cut = permitted-cut (nextFor s i c) (lastFor s i c) is js cs (and-right now later p) in
+    record {
+      first = c ∷ cut .first;
+      rest = cut .rest;
+      joined = ap (λ (x : List Bool). c ∷ x) (cut .joined);
+      first-permitted = and-both now (permitted (nextFor s i c) (lastFor s i c) is (cut .first)) (and-left now later p) (cut .first-permitted);
+      rest-permitted = cut .rest-permitted;
+    }
+
+-- the half words of items: the place after the last of them
+unfoldable pub halves : List Item → ℕ
+halves is = place is (length is)
+
+-- they are the length of a stream
+pub stream-length : (s l : ℕ) (is : List Item) (cs : List Bool) → T (permitted s l is cs) → length (stream s is cs) ≡ halves is
+unfolding permitted stream place halves
 stream-length s l [] [] p = refl
 stream-length s l [] (c ∷ cs) p = absurd p
 stream-length s l (i ∷ is) [] p = absurd p
@@ -51,28 +77,18 @@ stream-length s l (sync n ∷ is) (c ∷ cs) p = ap (λ (x : ℕ). suc (suc x)) 
 stream-length s l (byte b ∷ is) (c ∷ cs) p =
     ap suc (stream-length (nextFor s (byte b) c) (lastFor s (byte b) c) is cs (and-right (allowed s l (byte b) c) (permitted (nextFor s (byte b) c) (lastFor s (byte b) c) is cs) p))
 
-halves : List Item → ℕ
-halves is = place is (length is)
-
 halves-bytes : (xs : List ℕ) (ys : List Item) → halves (map byte xs ++ ys) ≡ length xs + halves ys
 unfolding halves place
 halves-bytes [] ys = sym (zero-add (place ys (length ys)))
 halves-bytes (x ∷ xs) ys = ap suc (halves-bytes xs ys) ∙ sym (suc-add (length xs) (place ys (length ys)))
 
-halves-frames : (n g : ℕ) (bs : List ℕ) (end : List Item) → length bs ≡ frameBytes * n → halves (frames g n bs ++ end) ≡ frameHalves * n + halves end
+pub halves-frames : (n g : ℕ) (bs : List ℕ) (end : List Item) → length bs ≡ frameBytes * n → halves (frames g n bs ++ end) ≡ frameHalves * n + halves end
 unfolding frames halves place
 halves-frames zero g bs end e = sym (zero-add (place end (length end)))
 halves-frames (suc n) g bs end e =
     rw (append-assoc (map byte (take frameBytes bs)) (frames (suc g) n (drop frameBytes bs)) end)
     (ap (λ (x : ℕ). suc (suc x)) (halves-bytes (take frameBytes bs) (frames (suc g) n (drop frameBytes bs) ++ end) ∙ ap₂ (λ (x y : ℕ). x + y) (head-length bs n e) (halves-frames n (suc g) (drop frameBytes bs) end (tail-length bs n e)))
     ∙ omega arith)
-
--- a permitted stream of a block is 77,380 bytes
-pub permitted-length : (bs : List ℕ) (cs : List Bool) → length bs ≡ blockSize → T (permittedChoices bs cs) → length (permittedStream bs cs) ≡ streamSize
-unfolding blockItems halves place
-permitted-length bs cs e p =
-    packed-length (stream 1 (frames 0 blockFrames bs ++ sync 0 ∷ []) (closed cs))
-    ∙ ap (λ (x : ℕ). 2 * x) (stream-length 1 0 (frames 0 blockFrames bs ++ sync 0 ∷ []) (closed cs) p ∙ halves-frames blockFrames 0 bs (sync 0 ∷ []) e)
 
 -- the State after permitted items is one
 pub state-after : (s l : ℕ) (is : List Item) (cs : List Bool) → T (allProper is) → State s → T (permitted s l is cs) → State (stateAfter s is cs)

@@ -1,5 +1,5 @@
 -- Sixteen readings of a sector are one reading of the block (part-half, part-read, read-block, read-row), few touched rows leave few rows far from what they
--- were (far-heavy), and a permitted stream is read as its block (reads-whole).
+-- were (far-heavy), and a block's stream as it was laid is read as its block (reads-whole).
 -- Assumes nothing.
 use mathlib.Core.Path.{_≡_, refl, sym, ap, ap₂, _∙_}
 use mathlib.Core.Bool.{Bool, true, false}
@@ -17,11 +17,11 @@ use Rattle.lists.proofs.Fill.{length-tabulateFrom, getD-tabulateFrom, tabulate-
 use Rattle.lists.proofs.Test.{truth}
 use Rattle.annexg.specs.Read.{readWord}
 use Rattle.layout.specs.Lengths.{sectorSize, sectorStream, sectorRead, rowSize, rowCount, blockSize}
-use Rattle.channel.specs.Block.{permittedChoices, permittedStream, readingByte, readAt, readSectors, readBlock, changed, someFrom, touched, touchedIn, heavyRows, farRows}
+use Rattle.channel.specs.Block.{readingByte, readAt, readSectors, readBlock, changed, someFrom, touched, touchedIn, heavyRows, farRows}
 use Rattle.layout.specs.Sectors.{halfOf, sectorPart}
 use Rattle.bytes.specs.Halves.{halfAt, bitAt}
 use Rattle.layout.specs.Rows.{rowOf}
-use Rattle.channel.proofs.Rows.{block-bytes, reading, row-damage}
+use Rattle.channel.proofs.Rows.{LaidBlock, laid-bytes, reading, row-damage}
 
 part-at : (xs : List ℕ) (a j : ℕ) → j < sectorRead → getD (take sectorRead (drop a xs)) j 0 ≡ getD xs (a + j) 0
 part-at xs a j h = getD-take sectorRead (drop a xs) j 0 h ∙ getD-drop a xs j 0
@@ -81,17 +81,16 @@ count-order f g k (suc n) h =
     let b = count-order f g (suc k) n (λ i j. h i (omega arith)) in
     omega arith
 
-module _ (bs : List ℕ) (cs : List Bool) (xs : List ℕ) (e : length bs ≡ blockSize) (hb : Bytes bs) (p : T (permittedChoices bs cs)) (hx : Bytes xs) where
-  -- at most as many rows of what is read are far from the block's as have more than five touched bytes
-  pub far-heavy : farRows (readBlock xs) bs ≤ heavyRows (permittedStream bs cs) xs
-  unfolding farRows heavyRows
-  far-heavy = count-order (λ r. ltb 5 (distance (rowOf (readBlock xs) r) (rowOf bs r))) (λ r. ltb 5 (touchedIn (permittedStream bs cs) xs r)) 0 rowCount far
-    where
-      far : (r : ℕ) → r < 0 + rowCount → T (ltb 5 (distance (rowOf (readBlock xs) r) (rowOf bs r))) → T (ltb 5 (touchedIn (permittedStream bs cs) xs r))
-      far r h t =
-          let q : r < rowCount = omega arith in
-          let d = rw (← read-row xs r q) at (row-damage bs cs xs e hb p hx r q) in
-          lt→ltb 5 (touchedIn (permittedStream bs cs) xs r) (omega (arith, d, ltb→lt 5 (distance (rowOf (readBlock xs) r) (rowOf bs r)) t))
+-- at most as many rows of what is read are far from the block's as have more than five touched bytes
+pub far-heavy : {bs ys : List ℕ} → LaidBlock bs ys → (xs : List ℕ) → Bytes xs → farRows (readBlock xs) bs ≤ heavyRows ys xs
+unfolding farRows heavyRows
+far-heavy {bs} {ys} m xs hx = count-order (λ r. ltb 5 (distance (rowOf (readBlock xs) r) (rowOf bs r))) (λ r. ltb 5 (touchedIn ys xs r)) 0 rowCount far
+  where
+    far : (r : ℕ) → r < 0 + rowCount → T (ltb 5 (distance (rowOf (readBlock xs) r) (rowOf bs r))) → T (ltb 5 (touchedIn ys xs r))
+    far r h t =
+        let q : r < rowCount = omega arith in
+        let d = rw (← read-row xs r q) at (row-damage m xs hx r q) in
+        lt→ltb 5 (touchedIn ys xs r) (omega (arith, d, ltb→lt 5 (distance (rowOf (readBlock xs) r) (rowOf bs r)) t))
 
 -- nothing is touched where nothing was changed
 unchanged : (ys : List ℕ) (j : ℕ) → changed ys ys j ≡ false
@@ -106,10 +105,9 @@ untouched : (ys : List ℕ) (i : ℕ) → touched ys ys i ≡ false
 unfolding touched
 untouched ys i = rw (none-of (changed ys ys) (unchanged ys) (16 * halfOf i) 16, unchanged ys (16 * halfOf i + 16)) (unchanged ys (16 * halfOf i + 28))
 
--- a permitted stream is read as its block
-pub reads-whole : (bs : List ℕ) (cs : List Bool) → length bs ≡ blockSize → Bytes bs → T (permittedChoices bs cs) → readBlock (permittedStream bs cs) ≡ bs
-reads-whole bs cs e hb p =
-    let ys = permittedStream bs cs in
+-- a block's stream as it was laid is read as its block
+pub reads-whole : {bs ys : List ℕ} → LaidBlock bs ys → readBlock ys ≡ bs
+reads-whole {bs} {ys} m =
     read-block ys
-    ∙ ext-getD 0 (tabulateFrom (readAt ys) 0 blockSize) bs (length-tabulateFrom (readAt ys) 0 blockSize ∙ sym e)
-    (λ i h. let k : i < blockSize = rw (length-tabulateFrom (readAt ys) 0 blockSize) at h in getD-tabulateFrom (readAt ys) 0 blockSize i k ∙ ap (readAt ys) (omega arith) ∙ reading bs cs ys e hb p (block-bytes bs cs e hb p) i k (untouched ys i))
+    ∙ ext-getD 0 (tabulateFrom (readAt ys) 0 blockSize) bs (length-tabulateFrom (readAt ys) 0 blockSize ∙ sym (m .size))
+    (λ i h. let k : i < blockSize = rw (length-tabulateFrom (readAt ys) 0 blockSize) at h in getD-tabulateFrom (readAt ys) 0 blockSize i k ∙ ap (readAt ys) (omega arith) ∙ reading m ys (laid-bytes m) i k (untouched ys i))

@@ -1,5 +1,5 @@
--- A block's permitted stream as it was laid: every Code Word is known (word-known), and every SYNC place of its 416 frames holds a code of the number due
--- there (SyncAt, sync-known).
+-- A block's stream as it was laid, anywhere in a run: every Code Word is known (word-known), and every SYNC place of its 416 frames holds a code of the number
+-- due there (SyncAt, sync-known).
 -- Assumes nothing.
 use mathlib.Core.Path.{_≡_, refl, sym, ap, ap₂, _∙_}
 use mathlib.Core.Bool.{Bool}
@@ -9,7 +9,6 @@ use native.Mathlib.Nat.{not-suc-le-zero, le-of-suc-le-suc}
 use native.Mathlib.Omega.{arith}
 use lib.Dec.{T}
 use lib.ListN.{length, getD, take, drop, length-append}
-use Rattle.lists.specs.Bytes.{Bytes}
 use Rattle.lists.proofs.Test.{and-left, and-right}
 use Rattle.annexg.specs.Read.{State, readWord}
 use Rattle.annexg.specs.Sync.{codeFor, syncEnd}
@@ -17,12 +16,13 @@ use Rattle.annexg.specs.declared.Reading.the-variants.{Byte}
 use Rattle.layout.specs.Lengths.{frameBytes, frameHalves, blockSize, blockFrames}
 use Rattle.channel.specs.Channel.{Item, sync, byte, nextFor, lastFor, allowed, permitted, stream, place, proper, allProper}
 use Rattle.layout.specs.Sectors.{codeOf, halfOf}
-use Rattle.channel.specs.Block.{frames, blockItems, closed, permittedChoices, permittedStream}
+use Rattle.channel.specs.Block.{frames, runItems}
 use Rattle.bytes.specs.Halves.{halfAt}
 use Rattle.channel.proofs.Places.{place-past, head-length, tail-length, frame-place, frame-item, frames-length, proper-append, frames-proper}
 use Rattle.channel.proofs.Reading.{next-state, reads}
 use Rattle.bytes.proofs.Halves.{half-packed}
 use Rattle.channel.proofs.Order.{frame-sync}
+use Rattle.channel.proofs.Rows.{LaidBlock}
 
 -- ---- the SYNC Code of frame f among the items
 
@@ -75,48 +75,48 @@ syncs s l (byte a ∷ is) (c ∷ cs) hp hs p (suc j) n h e =
 
 -- ---- of a block
 
-module _ (bs : List ℕ) (cs : List Bool) (e : length bs ≡ blockSize) (hb : Bytes bs) (p : T (permittedChoices bs cs)) where
+module _ {bs ys : List ℕ} (m : LaidBlock bs ys) where
   abbrev items : List Item
   items = frames 0 blockFrames bs ++ sync 0 ∷ []
 
-  abbrev halves : List ℕ
-  halves = stream 1 items (closed cs)
-
-  one : State 1
-  one = record { low = omega arith; high = omega arith }
+  abbrev laid : List ℕ
+  laid = stream (m .state) items (m .choices)
 
   all : T (allProper items)
-  all = proper-append (frames 0 blockFrames bs) (sync 0 ∷ []) (frames-proper blockFrames 0 bs e hb) (unfold allProper in tt)
+  all = proper-append (frames 0 blockFrames bs) (sync 0 ∷ []) (frames-proper blockFrames 0 bs (m .size) (m .bytes)) (unfold allProper in tt)
 
   long : length items ≡ 38273
-  long = length-append (frames 0 blockFrames bs) (sync 0 ∷ []) ∙ ap (λ (x : ℕ). x + 1) (frames-length blockFrames 0 bs e)
+  long = length-append (frames 0 blockFrames bs) (sync 0 ∷ []) ∙ ap (λ (x : ℕ). x + 1) (frames-length blockFrames 0 bs (m .size))
 
-  pub word-known : (i : ℕ) → i < blockSize
-      → readWord (halfAt (permittedStream bs cs) (halfOf i)) (halfAt (permittedStream bs cs) (halfOf i + 1)) ≡ Byte (getD bs i 0)
-  unfolding blockItems
+  laid-half : (k : ℕ) → halfAt ys k ≡ getD laid k 0
+  unfolding runItems
+  laid-half k = ap (λ (y : List ℕ). halfAt y k) (m .is) ∙ half-packed laid k
+
+  pub word-known : (i : ℕ) → i < blockSize → readWord (halfAt ys (halfOf i)) (halfAt ys (halfOf i + 1)) ≡ Byte (getD bs i 0)
+  unfolding runItems
   word-known i h =
       let f = i / frameBytes in
       let q = i % frameBytes in
       let hf : f < blockFrames = omega arith in
       let hq : q < frameBytes = omega arith in
-      let at-half : place items (92 * f + suc q) ≡ halfOf i = frame-place blockFrames 0 bs (sync 0 ∷ []) e f q hf hq ∙ omega arith in
+      let at-half : place items (92 * f + suc q) ≡ halfOf i = frame-place blockFrames 0 bs (sync 0 ∷ []) (m .size) f q hf hq ∙ omega arith in
       let at-next : suc (place items (92 * f + suc q)) ≡ halfOf i + 1 = ap suc at-half ∙ omega arith in
       let the-byte : getD items (92 * f + suc q) (sync 0) ≡ byte (getD bs i 0) =
-      frame-item blockFrames 0 bs (sync 0 ∷ []) e f q hf hq ∙ ap (λ (x : ℕ). byte (getD bs x 0)) (omega arith) in
-      ap₂ readWord (half-packed halves (halfOf i) ∙ ap (λ (x : ℕ). getD halves x 0) (sym at-half))
-      (half-packed halves (halfOf i + 1) ∙ ap (λ (x : ℕ). getD halves x 0) (sym at-next))
-      ∙ reads 1 0 items (closed cs) all one p (92 * f + suc q) (getD bs i 0) (omega (arith, long)) the-byte (getD halves (suc (place items (92 * f + suc q))) 0) refl
+      frame-item blockFrames 0 bs (sync 0 ∷ []) (m .size) f q hf hq ∙ ap (λ (x : ℕ). byte (getD bs x 0)) (omega arith) in
+      ap₂ readWord (laid-half (halfOf i) ∙ ap (λ (x : ℕ). getD laid x 0) (sym at-half)) (laid-half (halfOf i + 1) ∙ ap (λ (x : ℕ). getD laid x 0) (sym at-next))
+      ∙ reads (m .state) (m .last) items (m .choices) all (m .is-state) (m .ok) (92 * f + suc q) (getD bs i 0) (omega (arith, long)) the-byte
+      (getD laid (suc (place items (92 * f + suc q))) 0) refl
 
-  pub sync-known : (f : ℕ) → f < blockFrames → SyncAt (codeOf f) (halfAt (permittedStream bs cs) (frameHalves * f)) (halfAt (permittedStream bs cs) (frameHalves * f + 1))
-  unfolding blockItems
+  pub sync-known : (f : ℕ) → f < blockFrames → SyncAt (codeOf f) (halfAt ys (frameHalves * f)) (halfAt ys (frameHalves * f + 1))
+  unfolding runItems
   sync-known f h =
-      let at-half : place items (92 * f) ≡ frameHalves * f = sync-place blockFrames 0 bs (sync 0 ∷ []) e f h in
-      let the-code : getD items (92 * f) (byte 0) ≡ sync (codeOf f) = frame-sync blockFrames 0 bs (sync 0 ∷ []) e f h ∙ ap (λ (x : ℕ). sync (codeOf x)) (omega arith) in
-      let s = syncs 1 0 items (closed cs) all one p (92 * f) (codeOf f) (omega (arith, long)) the-code in
+      let at-half : place items (92 * f) ≡ frameHalves * f = sync-place blockFrames 0 bs (sync 0 ∷ []) (m .size) f h in
+      let the-code : getD items (92 * f) (byte 0) ≡ sync (codeOf f) = frame-sync blockFrames 0 bs (sync 0 ∷ []) (m .size) f h ∙ ap (λ (x : ℕ). sync (codeOf x)) (omega arith) in
+      let s = syncs (m .state) (m .last) items (m .choices) all (m .is-state) (m .ok) (92 * f) (codeOf f) (omega (arith, long)) the-code in
       record {
         state = s .state;
         choice = s .choice;
         is-state = s .is-state;
-        first = half-packed halves (frameHalves * f) ∙ ap (λ (x : ℕ). getD halves x 0) (sym at-half) ∙ s .first;
-        second = half-packed halves (frameHalves * f + 1) ∙ ap (λ (x : ℕ). getD halves x 0) (omega (arith, at-half)) ∙ s .second;
+        first = laid-half (frameHalves * f) ∙ ap (λ (x : ℕ). getD laid x 0) (sym at-half) ∙ s .first;
+        second = laid-half (frameHalves * f + 1) ∙ ap (λ (x : ℕ). getD laid x 0) (omega (arith, at-half)) ∙ s .second;
       }

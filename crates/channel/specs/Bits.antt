@@ -31,7 +31,7 @@ syncHalf (byte b ∷ is) (suc k) = syncHalf is k
 abbrev pub zeroRunFits : List Item → ℕ → ℕ → Bool
 zeroRunFits is i n = inside 2 10 n || (eqb n 13 && (eqb (i % 16) 13 && syncHalf is (i / 16)))
 
--- the same in a block, whose frames are 1,488 bits
+-- the same in a block or a run of blocks, whose frames are 1,488 bits
 abbrev pub blockZeroRunFits : ℕ → ℕ → Bool
 blockZeroRunFits i n = inside 2 10 n || (eqb n 13 && eqb (i % frameBits) 13)
 

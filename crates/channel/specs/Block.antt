@@ -1,18 +1,21 @@
--- The items of a sector and of a block, the permitted streams, what damage touches, and the bytes that are read.
+-- The items of a sector, a run and a block, the permitted streams (runItems, permittedRun, runStream; of one block permittedChoices, permittedStream), the bytes
+-- that are read (readSector, readBlock), and what damage touches (touched, heavyRows).
 -- "Permitted stream", "touched" and "heavy row" are the project's own terms.
 -- Assumes nothing.
+use mathlib.Core.Path.{_≡_}
 use mathlib.Core.Bool.{Bool, false, not, _||_}
 use mathlib.Core.List.{List, [], _∷_, _++_, map}
 use Prim.Native.Nat.{ℕ, zero, suc, _+_, _*_}
 use lib.Dec.{eqb, ltb}
-use lib.ListN.{take, drop}
+use lib.ListN.{length, take, drop}
+use Rattle.lists.specs.Bytes.{Bytes}
 use Rattle.lists.specs.Fill.{tabulate}
 use Rattle.lists.specs.Count.{countFrom, distance}
 use Rattle.annexg.specs.Read.{readWord}
 use Rattle.annexg.specs.declared.Reading.{Reading}
 use Rattle.annexg.specs.declared.Reading.the-variants.{Byte, Unknown}
 use Rattle.bytes.specs.Halves.{packed, halfAt, bitAt}
-use Rattle.layout.specs.Lengths.{frameBytes, sectorFrames, blockFrames, sectorCount, sectorSize, rowCount, rowSize}
+use Rattle.layout.specs.Lengths.{frameBytes, sectorFrames, blockFrames, sectorCount, sectorSize, rowCount, rowSize, blockSize}
 use Rattle.layout.specs.Rows.{rowOf}
 use Rattle.layout.specs.Sectors.{codeOf, halfOf, sectorPart}
 use Rattle.channel.specs.Channel.{Item, sync, byte, stream, permitted}
@@ -28,20 +31,39 @@ frames f (suc n) bs = sync (codeOf f) ∷ (map byte (take frameBytes bs) ++ fram
 abbrev pub sectorItems : List ℕ → List Item
 sectorItems bs = frames 0 sectorFrames bs
 
--- the 16 sectors of a block of 37,856 bytes, and the closing SY0
-unfoldable pub blockItems : List ℕ → List Item
-blockItems bs = frames 0 blockFrames bs ++ (sync 0 ∷ [])
+-- ---- a run of blocks, and its permitted streams
 
--- the choices of a block with the closing code's, which is the Primary
+-- any blocks: 37,856 bytes each, whatever they hold
+unfoldable pub Blocks : List (List ℕ) → Type 0
+Blocks [] = Unit {0}
+Blocks (b ∷ run) = ((length b ≡ blockSize) × Bytes b) × Blocks run
+
+-- the 16 sectors of each block of a run, one block after the other, and the closing SY0 after the last (document 02, request 1)
+unfoldable pub runItems : List (List ℕ) → List Item
+runItems [] = sync 0 ∷ []
+runItems (b ∷ run) = frames 0 blockFrames b ++ runItems run
+
+-- the choices of a run with the closing code's, which is the Primary
 abbrev pub closed : List Bool → List Bool
 closed cs = cs ++ (false ∷ [])
 
--- a list of permitted choices for a block, and the permitted stream that it takes: a block starts at State 1 with a SYNC Code, so no half word before it counts
+-- a list of permitted choices over a run, and the permitted stream that it takes: a run starts at State 1 with a SYNC Code, so no half word before it counts.
+-- Every later block starts from the State and the half word that the one before it leaves
+abbrev pub permittedRun : List (List ℕ) → List Bool → Bool
+permittedRun run cs = permitted 1 0 (runItems run) (closed cs)
+
+abbrev pub runStream : List (List ℕ) → List Bool → List ℕ
+runStream run cs = packed (stream 1 (runItems run) (closed cs))
+
+-- the same of a single block, which is a run by itself
+abbrev pub blockItems : List ℕ → List Item
+blockItems b = runItems (b ∷ [])
+
 abbrev pub permittedChoices : List ℕ → List Bool → Bool
-permittedChoices bs cs = permitted 1 0 (blockItems bs) (closed cs)
+permittedChoices b cs = permittedRun (b ∷ []) cs
 
 abbrev pub permittedStream : List ℕ → List Bool → List ℕ
-permittedStream bs cs = packed (stream 1 (blockItems bs) (closed cs))
+permittedStream b cs = runStream (b ∷ []) cs
 
 -- ---- reading
 

@@ -8,7 +8,7 @@ use lib.ListN.{length, getD}
 use Rattle.lists.proofs.Fill.{getD-tabulate}
 use Rattle.annexg.specs.ZeroRuns.{bitsOf}
 use Rattle.channel.specs.Bits.{bitsAll}
-use Rattle.channel.proofs.BlockZeroRuns.{half-bits}
+use Rattle.channel.proofs.RunZeroRuns.{half-bits}
 use Rattle.levels.specs.Level.{flipped, levelAfter, dsvAfter, runningAfter}
 use Rattle.levels.specs.Inner.{atOne, byteLevels, levelTable}
 use Rattle.levels.specs.declared.Running.{Running}

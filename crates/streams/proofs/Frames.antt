@@ -1,7 +1,7 @@
--- Frames, sectors and blocks by the two-stream rule are permitted streams of their items.
+-- Frames, sectors and runs of blocks by the two-stream rule are permitted streams of their items.
 -- Assumes nothing.
 use mathlib.Core.Path.{_≡_, refl, sym, ap, ap₂, subst, _∙_}
-use mathlib.Core.Bool.{false}
+use mathlib.Core.Bool.{Bool, false}
 use mathlib.Core.List.{List, [], _∷_, _++_, map, append-assoc, append-nil}
 use Prim.Native.Nat.{ℕ, zero, suc, _+_, _*_}
 use native.Mathlib.Nat.{zero-add, suc-add, add-zero}
@@ -10,12 +10,13 @@ use lib.Dec.{T}
 use lib.ListN.{getD, take, drop}
 use lib.Seq.{take-take, drop-drop, take-nil}
 use Rattle.layout.specs.Sectors.{frameCodes, codeOf}
-use Rattle.channel.specs.Block.{frames, sectorItems, blockItems, closed, permittedChoices, permittedStream}
+use Rattle.channel.specs.Block.{frames, sectorItems, runItems, closed, permittedRun, runStream}
+use Rattle.channel.proofs.Runs.{run-head}
 use Rattle.bytes.specs.Halves.{packed}
 use Rattle.channel.specs.Channel.{Item, sync, byte, permitted, stream}
 use Rattle.levels.specs.declared.Running.{Running}
-use Rattle.layout.specs.Lengths.{sectorSize}
-use Rattle.streams.specs.Frames.{joined, framesOf, sectorOf, sectorsOf, closingOf, blockOf, choicesOf}
+use Rattle.layout.specs.Lengths.{blockFrames, sectorCount, sectorSize}
+use Rattle.streams.specs.Frames.{joined, framesOf, sectorOf, sectorsOf, closingOf, runOf, choicesOf}
 use Rattle.streams.specs.Streams.{Stream, fresh, lay, frameItems, syncFrameOf}
 use Rattle.streams.specs.Inner.{extended, laidBy, Laid}
 use Rattle.streams.proofs.Laid.{laid-fresh, laid-lay, laid-join, frame-laid}
@@ -110,17 +111,36 @@ sectors-laid r bs (suc n) =
 pub closing-laid : (r : Running) → Laid r (sync 0 ∷ []) (closingOf r)
 closing-laid r = laid-lay r [] (fresh r) (sync 0) false (laid-fresh r) tt
 
--- sixteen sectors and the closing code
-pub block-laid : (r : Running) (bs : List ℕ) → Laid r (blockItems bs) (blockOf r bs)
-unfolding blockOf blockItems
-block-laid r bs = let m = sectorsOf r bs 16 in laid-join r (frames 0 416 bs) m (closingOf (m .running)) 0 [] (sectors-laid r bs 16) (closing-laid (m .running))
+-- the sectors of a run and the closing code
+pub run-laid : (r : Running) (run : List (List ℕ)) → Laid r (runItems run) (runOf r run)
+unfolding runOf runItems
+run-laid r [] = closing-laid r
+run-laid r (b ∷ run) =
+    let m = sectorsOf r b sectorCount in
+    let next = run-head run in
+    let rest = runOf (m .running) run in
+    subst (λ (is : List Item). Laid r (frames 0 blockFrames b ++ is) (joined m rest)) (sym (next .is))
+    (laid-join r (frames 0 blockFrames b) m rest 0 (next .tail) (sectors-laid r b sectorCount)
+    (subst (λ (is : List Item). Laid (m .running) is rest) (next .is) (run-laid (m .running) run)))
 
--- PERMITTED: the choices of the rule over a block that starts at State 1 are permitted, whatever the bytes, and what it lays is their permitted stream
-module _ (r : Running) (bs : List ℕ) (e : r .state ≡ 1) where
-  pub block-permitted : T (permittedChoices bs (choicesOf r bs))
-  unfolding choicesOf blockOf lay
-  block-permitted = subst (λ (s : ℕ). T (permitted s 0 (blockItems bs) (closed (choicesOf r bs)))) e (block-laid r bs .ok)
+-- its choices are those over the sectors, and the closing code's
+run-choices : (r : Running) (run : List (List ℕ)) → runOf r run .choices ≡ closed (choicesOf r run)
+unfolding runOf choicesOf lay
+run-choices r [] = refl
+run-choices r (b ∷ run) =
+    let m = sectorsOf r b sectorCount in
+    ap (λ (cs : List Bool). m .choices ++ cs) (run-choices (m .running) run) ∙ sym (append-assoc (m .choices) (choicesOf (m .running) run) (false ∷ []))
 
-  pub block-stream : packed (blockOf r bs .halves) ≡ permittedStream bs (choicesOf r bs)
-  unfolding choicesOf blockOf lay laidBy extended
-  block-stream = ap (λ (x : Stream). packed (x .halves)) (block-laid r bs .same) ∙ ap (λ (s : ℕ). packed (stream s (blockItems bs) (closed (choicesOf r bs)))) e
+-- PERMITTED: the choices of the rule over a run that starts at State 1 are permitted, whatever the bytes, and what it lays is their permitted stream
+module _ (r : Running) (run : List (List ℕ)) (e : r .state ≡ 1) where
+  pub run-permitted : T (permittedRun run (choicesOf r run))
+  run-permitted =
+      subst (λ (s : ℕ). T (permitted s 0 (runItems run) (closed (choicesOf r run)))) e
+      (subst (λ (cs : List Bool). T (permitted (r .state) 0 (runItems run) cs)) (run-choices r run) (run-laid r run .ok))
+
+  pub run-stream : packed (runOf r run .halves) ≡ runStream run (choicesOf r run)
+  unfolding laidBy extended
+  run-stream =
+      ap (λ (x : Stream). packed (x .halves)) (run-laid r run .same)
+      ∙ ap (λ (cs : List Bool). packed (stream (r .state) (runItems run) cs)) (run-choices r run)
+      ∙ ap (λ (s : ℕ). packed (stream s (runItems run) (closed (choicesOf r run)))) e

@@ -1,13 +1,14 @@
--- Frames, sectors and blocks by the two-stream rule: each frame starts from the running record that the one before it left. The DSV is never reset.
+-- Frames, sectors, blocks and runs of blocks by the two-stream rule: each frame starts from the running record that the one before it left. The DSV is set to 0
+-- at the beginning of the modulation only (clause 22), and never again.
 -- Assumes nothing.
 use mathlib.Core.Bool.{Bool, false}
-use mathlib.Core.List.{List, _++_}
+use mathlib.Core.List.{List, [], _∷_, _++_}
 use Prim.Native.Nat.{ℕ, zero, suc, _*_}
 use lib.ListN.{take, drop}
 use Rattle.layout.specs.Sectors.{codeOf}
 use Rattle.channel.specs.Channel.{sync}
 use Rattle.levels.specs.declared.Running.{Running}
-use Rattle.layout.specs.Lengths.{sectorSize, frameBytes, sectorFrames}
+use Rattle.layout.specs.Lengths.{sectorCount, sectorSize, frameBytes, sectorFrames}
 use Rattle.streams.specs.Streams.{Stream, fresh, lay, syncFrameOf}
 
 -- a stream after another
@@ -36,10 +37,12 @@ sectorsOf r bs (suc n) =
 abbrev pub closingOf : Running → Stream
 closingOf r = lay (fresh r) (sync 0) false
 
--- the sixteen sectors of a block and the closing code
-unfoldable pub blockOf : Running → List ℕ → Stream
-blockOf r bs = let m = sectorsOf r bs 16 in joined m (closingOf (m .running))
+-- a run of blocks: the sixteen sectors of each, and the closing code after the last. A later block starts from the running record that the one before it left
+unfoldable pub runOf : Running → List (List ℕ) → Stream
+runOf r [] = closingOf r
+runOf r (b ∷ run) = let m = sectorsOf r b sectorCount in joined m (runOf (m .running) run)
 
--- the choices that the rule takes over the sixteen sectors
-unfoldable pub choicesOf : Running → List ℕ → List Bool
-choicesOf r bs = sectorsOf r bs 16 .choices
+-- the choices that the rule takes over the sectors of a run
+unfoldable pub choicesOf : Running → List (List ℕ) → List Bool
+choicesOf r [] = []
+choicesOf r (b ∷ run) = let m = sectorsOf r b sectorCount in m .choices ++ choicesOf (m .running) run

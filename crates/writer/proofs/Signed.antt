@@ -2,7 +2,7 @@
 -- Assumes nothing.
 use mathlib.Core.Path.{_≡_, refl, sym, ap, subst, _∙_}
 use mathlib.Core.Bool.{Bool, true, false, cond, not}
-use Prim.Native.Nat.{ℕ, suc, _*_, _-_, _<_, _≤_}
+use Prim.Native.Nat.{ℕ, suc, _+_, _*_, _-_, _<_, _≤_}
 use native.Mathlib.Omega.{arith}
 use borrow.Author.Tests.{ltb-true, ltb-false, lt-ltb, le-ltb, le-leb, lt-leb}
 use lib.Dec.{T, leb, ltb}
@@ -30,6 +30,10 @@ offset-signed d = by (ltb d zeroAt) refl
     by : (x : Bool) → ltb d zeroAt ≡ x → offset (signed d) ≡ d
     by true e = ap offset (low d (ltb-true d zeroAt e)) ∙ omega (arith, ltb-true d zeroAt e)
     by false e = ap offset (high d (ltb-false d zeroAt e)) ∙ omega (arith, ltb-false d zeroAt e)
+
+pub signed-offset : (z : ℤ) → natAbs z ≤ zeroAt → signed (offset z) ≡ z
+signed-offset (pos n) h = high (zeroAt + n) (omega arith) ∙ ap pos (omega arith)
+signed-offset (negsuc n) h = low (zeroAt - suc n) (omega arith) ∙ ap negsuc (omega arith)
 
 pub abs-signed : (d : ℕ) → natAbs (signed d) ≡ magnitude d
 abs-signed d = by (ltb d zeroAt) refl

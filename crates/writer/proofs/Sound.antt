@@ -3,9 +3,9 @@
 use mathlib.Core.Path.{_≡_, refl, sym, ap, ap₂, subst, _∙_}
 use mathlib.Core.Bool.{Bool, true, false, not, cond, _&&_, _||_}
 use mathlib.Core.List.{List}
-use Prim.Native.Nat.{ℕ, _+_, _*_, _<_, _≤_}
+use Prim.Native.Nat.{ℕ, _+_, _-_, _*_, _<_, _≤_}
 use native.Mathlib.Omega.{arith}
-use borrow.Author.Tests.{eqb-true, leb-true, leb-false, le-leb, lt-leb, lt-ltb, le-ltb, eq-eqb, ne-eqb}
+use borrow.Author.Tests.{eqb-true, leb-false, le-leb, lt-leb, lt-ltb, le-ltb, ltb-true, ltb-false, eq-eqb, ne-eqb}
 use lib.Dec.{T, eqb, ltb, leb, leb→le, le→leb}
 use lib.IntN.{natAbs}
 use lib.ListN.{length}
@@ -15,13 +15,13 @@ use Rattle.lists.proofs.Test.{and-left, and-right, and-both}
 use Rattle.annexg.specs.Read.{State}
 use Rattle.annexg.specs.ZeroRuns.{inside}
 use Rattle.bytes.specs.Halves.{packed}
-use Rattle.layout.specs.Lengths.{sectorBits, sectorCount, sectorSize, sectorStream, closingSize}
+use Rattle.layout.specs.Lengths.{sectorBits, sectorCount, sectorSize, sectorStream, closingSize, runSectors}
 use Rattle.levels.specs.Level.{zeroAt}
 use Rattle.levels.specs.Inner.{Room}
 use Rattle.levels.specs.declared.Running.{Running}
 use Rattle.streams.specs.Frames.{sectorOf, closingOf}
 use Rattle.streams.proofs.Range.{sector-near, closing-near}
-use Rattle.writer.specs.Answers.{sound, sectorRefusal, closingRefusal, sectorNext, sectorOut, closingNext, closingOut}
+use Rattle.writer.specs.Answers.{closes, sound, ended, sectorRefusal, blockRefusal, closingRefusal, sectorNext, sectorOut, closingNext, closingOut}
 use Rattle.writer.specs.Inner.{SectorBegins}
 use Rattle.writer.specs.Records.{runningOf, recordOf, afterSector, afterClosing}
 use Rattle.writer.specs.declared.Record.{Record}
@@ -35,76 +35,83 @@ limitOf w = sectorBits * w .sectors + 32 * bit (w .closed)
 
 pub sound-by :
     (w : Record) (a b c d e f : Bool) → leb 1 (w .state) ≡ a → leb (w .state) 4 ≡ b → leb (w .level) 1 ≡ c
-    → leb (w .sectors) sectorCount ≡ d → not (w .closed) || leb sectorCount (w .sectors) ≡ e → leb (natAbs (w .dsv)) (limitOf w) ≡ f
+    → leb (w .sectors) runSectors ≡ d → not (w .closed) || closes (w .sectors) ≡ e → leb (natAbs (w .dsv)) (limitOf w) ≡ f
     → (a && b) && (c && (d && (e && f))) ≡ sound w
 unfolding sound
 sound-by w a b c d e f p q r s t u = sym (ap₂ _&&_ (ap₂ _&&_ p q) (ap₂ _&&_ r (ap₂ _&&_ s (ap₂ _&&_ t u))))
 
 -- the first four hold
 pub sound-rest :
-    (w : Record) → 1 ≤ w .state → w .state ≤ 4 → w .level ≤ 1 → w .sectors ≤ sectorCount → (e f : Bool)
-    → not (w .closed) || leb sectorCount (w .sectors) ≡ e → leb (natAbs (w .dsv)) (limitOf w) ≡ f → e && f ≡ sound w
+    (w : Record) → 1 ≤ w .state → w .state ≤ 4 → w .level ≤ 1 → w .sectors ≤ runSectors → (e f : Bool)
+    → not (w .closed) || closes (w .sectors) ≡ e → leb (natAbs (w .dsv)) (limitOf w) ≡ f → e && f ≡ sound w
 sound-rest w p q r s e f t u =
     sound-by w true true true true e f
-    (le-leb 1 (w .state) p) (le-leb (w .state) 4 q) (le-leb (w .level) 1 r) (le-leb (w .sectors) sectorCount s) t u
+    (le-leb 1 (w .state) p) (le-leb (w .state) 4 q) (le-leb (w .level) 1 r) (le-leb (w .sectors) runSectors s) t u
 
 -- a DSV beyond 2^40 is beyond every limit
 pub too-far :
-    (w : Record) → w .sectors ≤ sectorCount → leb (natAbs (w .dsv)) zeroAt ≡ false
+    (w : Record) → w .sectors ≤ runSectors → leb (natAbs (w .dsv)) zeroAt ≡ false
     → leb (natAbs (w .dsv)) (limitOf w) ≡ false
 too-far w h e =
     lt-leb (natAbs (w .dsv)) (limitOf w) (omega (arith, leb-false (natAbs (w .dsv)) zeroAt e, bit-le (w .closed)))
 
 pub sector-by :
-    (w : Record) (from to : ℕ) (a b c d e : Bool) → eqb from sectorSize ≡ a → eqb to sectorStream ≡ b → sound w ≡ c
-    → w .closed ≡ d → leb sectorCount (w .sectors) ≡ e
-    → cond (a && b) (cond c (cond (d || e) 7 0) 9) 1 ≡ sectorRefusal w from to
+    (w : Record) (from to : ℕ) (a b c d : Bool) → eqb from sectorSize ≡ a → eqb to sectorStream ≡ b → sound w ≡ c → ended w 1 ≡ d
+    → cond (a && b) (cond c (cond d 7 0) 9) 1 ≡ sectorRefusal w from to
 unfolding sectorRefusal
-sector-by w from to a b c d e p q r s t =
+sector-by w from to a b c d p q r s =
     sym
-    (ap₂ (λ (x y : Bool). cond x (cond y (cond (w .closed || leb sectorCount (w .sectors)) 7 0) 9) 1) (ap₂ _&&_ p q) r
-    ∙ ap (λ (x : Bool). cond (a && b) (cond c (cond x 7 0) 9) 1) (ap₂ _||_ s t))
+    (ap₂ (λ (x y : Bool). cond x (cond y (cond (ended w 1) 7 0) 9) 1) (ap₂ _&&_ p q) r
+    ∙ ap (λ (x : Bool). cond (a && b) (cond c (cond x 7 0) 9) 1) s)
 
 pub closing-by :
     (w : Record) (to : ℕ) (a c d e : Bool) → eqb to closingSize ≡ a → sound w ≡ c → w .closed ≡ d
-    → leb sectorCount (w .sectors) ≡ e → cond a (cond c (cond d 7 (cond e 0 8)) 9) 1 ≡ closingRefusal w to
+    → closes (w .sectors) ≡ e → cond a (cond c (cond d 7 (cond e 0 8)) 9) 1 ≡ closingRefusal w to
 unfolding closingRefusal
 closing-by w to a c d e p r s t =
     sym
-    (ap₂ (λ (x y : Bool). cond x (cond y (cond (w .closed) 7 (cond (leb sectorCount (w .sectors)) 0 8)) 9) 1) p r
+    (ap₂ (λ (x y : Bool). cond x (cond y (cond (w .closed) 7 (cond (closes (w .sectors)) 0 8)) 9) 1) p r
     ∙ ap₂ (λ (x y : Bool). cond a (cond c (cond x 7 (cond y 0 8)) 9) 1) s t)
 
 -- the answer because of the state, where the lengths are right
 pub sector-by-state :
-    (w : Record) (from to k : ℕ) (s e : Bool) → from ≡ sectorSize → to ≡ sectorStream → s ≡ sound w
-    → e ≡ w .closed || leb sectorCount (w .sectors) → k ≡ cond s (cond e 7 0) 9 → k ≡ sectorRefusal w from to
+    (w : Record) (from to k : ℕ) (s e : Bool) → from ≡ sectorSize → to ≡ sectorStream → s ≡ sound w → e ≡ ended w 1
+    → k ≡ cond s (cond e 7 0) 9 → k ≡ sectorRefusal w from to
 sector-by-state w from to k s e f t se ee h =
     h
     ∙ ap₂ (λ (x y : Bool). cond x (cond y 7 0) 9) se ee
-    ∙ sector-by w from to true true (sound w) (w .closed) (leb sectorCount (w .sectors)) (eq-eqb from sectorSize f)
-    (eq-eqb to sectorStream t) refl refl refl
+    ∙ sector-by w from to true true (sound w) (ended w 1) (eq-eqb from sectorSize f) (eq-eqb to sectorStream t) refl refl
 
-unfinished : (n : ℕ) → _≡_ {A = ℕ} (cond (ltb n sectorCount) 8 0) (cond (leb sectorCount n) 0 8)
-unfinished n = by (leb sectorCount n) refl
+pub block-by-state : (w : Record) (k : ℕ) (s e : Bool) → s ≡ sound w → e ≡ ended w sectorCount → k ≡ cond s (cond e 7 0) 9 → k ≡ blockRefusal w
+unfolding blockRefusal
+block-by-state w k s e se ee h = h ∙ ap₂ (λ (x y : Bool). cond x (cond y 7 0) 9) se ee
+
+-- the run's end, tested without a sum
+pub more-ended : (n more : ℕ) → more ≤ runSectors → ltb (runSectors - more) n ≡ ltb runSectors (n + more)
+more-ended n more h = by (ltb (runSectors - more) n) refl
   where
-    by : (b : Bool) → leb sectorCount n ≡ b → _≡_ {A = ℕ} (cond (ltb n sectorCount) 8 0) (cond b 0 8)
-    by true e = ap (λ (x : Bool). cond x 8 0) (le-ltb n sectorCount (leb-true sectorCount n e))
-    by false e = ap (λ (x : Bool). cond x 8 0) (lt-ltb n sectorCount (leb-false sectorCount n e))
+    by : (x : Bool) → ltb (runSectors - more) n ≡ x → x ≡ ltb runSectors (n + more)
+    by true e = sym (lt-ltb runSectors (n + more) (omega (arith, ltb-true (runSectors - more) n e)))
+    by false e = sym (le-ltb runSectors (n + more) (omega (arith, ltb-false (runSectors - more) n e)))
+
+unfinished : (b : Bool) → _≡_ {A = ℕ} (cond (not b) 8 0) (cond b 0 8)
+unfinished true = refl
+unfinished false = refl
 
 pub closing-by-state :
-    (w : Record) (to k : ℕ) (s : Bool) → to ≡ closingSize → s ≡ sound w
-    → k ≡ cond s (cond (w .closed) 7 (cond (ltb (w .sectors) sectorCount) 8 0)) 9 → k ≡ closingRefusal w to
-closing-by-state w to k s t se h =
-    h ∙ ap₂ (λ (x : Bool) (y : ℕ). cond x (cond (w .closed) 7 y) 9) se (unfinished (w .sectors))
-    ∙ closing-by w to true (sound w) (w .closed) (leb sectorCount (w .sectors)) (eq-eqb to closingSize t) refl refl refl
+    (w : Record) (to k : ℕ) (s e : Bool) → to ≡ closingSize → s ≡ sound w → e ≡ closes (w .sectors)
+    → k ≡ cond s (cond (w .closed) 7 (cond (not e) 8 0)) 9 → k ≡ closingRefusal w to
+closing-by-state w to k s e t se ee h =
+    h ∙ ap₂ (λ (x : Bool) (y : ℕ). cond x (cond (w .closed) 7 y) 9) se (unfinished e ∙ ap (λ (x : Bool). cond x 0 8) ee)
+    ∙ closing-by w to true (sound w) (w .closed) (closes (w .sectors)) (eq-eqb to closingSize t) refl refl refl
 
 -- ---- a sound record, part by part
 
 pub record Sound (w : Record) : Type 0 where
   pub state : State (w .state)
   pub level : w .level < 2
-  pub sectors : w .sectors ≤ sectorCount
-  pub whole : w .closed ≡ true → sectorCount ≤ w .sectors
+  pub sectors : w .sectors ≤ runSectors
+  pub whole : w .closed ≡ true → T (closes (w .sectors))
   pub dsv : natAbs (w .dsv) ≤ limitOf w
 
 closed-with : (c x : Bool) → T (not c || x) → c ≡ true → T x
@@ -123,10 +130,10 @@ module _ (w : Record) where
   b₂ = leb (w .level) 1
 
   b₃ : Bool
-  b₃ = leb (w .sectors) sectorCount
+  b₃ = leb (w .sectors) runSectors
 
   b₄ : Bool
-  b₄ = not (w .closed) || leb sectorCount (w .sectors)
+  b₄ = not (w .closed) || closes (w .sectors)
 
   b₅ : Bool
   b₅ = leb (natAbs (w .dsv)) (limitOf w)
@@ -145,10 +152,8 @@ module _ (w : Record) where
               high = leb→le (w .state) 4 (and-right (leb 1 (w .state)) (leb (w .state) 4) t₁);
             };
         level = omega (arith, leb→le (w .level) 1 (and-left b₂ (b₃ && (b₄ && b₅)) u₁));
-        sectors = leb→le (w .sectors) sectorCount (and-left b₃ (b₄ && b₅) u₂);
-        whole = λ c.
-            leb→le sectorCount (w .sectors)
-            (closed-with (w .closed) (leb sectorCount (w .sectors)) (and-left b₄ b₅ u₃) c);
+        sectors = leb→le (w .sectors) runSectors (and-left b₃ (b₄ && b₅) u₂);
+        whole = closed-with (w .closed) (closes (w .sectors)) (and-left b₄ b₅ u₃);
         dsv = leb→le (natAbs (w .dsv)) (limitOf w) (and-right b₄ b₅ u₃);
       }
 
@@ -159,10 +164,8 @@ module _ (w : Record) where
       let high = le→leb (w .state) 4 (s .state .high) in
       and-both b₁ (b₂ && (b₃ && (b₄ && b₅))) (and-both (leb 1 (w .state)) (leb (w .state) 4) low high)
       (and-both b₂ (b₃ && (b₄ && b₅)) (le→leb (w .level) 1 (omega (arith, s .level)))
-      (and-both b₃ (b₄ && b₅) (le→leb (w .sectors) sectorCount (s .sectors))
-      (and-both b₄ b₅
-      (with-closed (w .closed) (leb sectorCount (w .sectors)) (λ c. le→leb sectorCount (w .sectors) (s .whole c)))
-      (le→leb (natAbs (w .dsv)) (limitOf w) (s .dsv)))))
+      (and-both b₃ (b₄ && b₅) (le→leb (w .sectors) runSectors (s .sectors))
+      (and-both b₄ b₅ (with-closed (w .closed) (closes (w .sectors)) (s .whole)) (le→leb (natAbs (w .dsv)) (limitOf w) (s .dsv)))))
 
   module _ (s : Sound w) where
     pub near : natAbs (w .dsv) ≤ zeroAt
@@ -180,68 +183,79 @@ module _ (w : Record) where
 
 -- ---- nothing is refused
 
+either-false : (a b : Bool) → (a || b) ≡ false → (a ≡ false) × (b ≡ false)
+either-false true b e = absurd (subst T e tt)
+either-false false b e = (refl, e)
+
+-- a sound record with room for n sectors more
+pub record Open (w : Record) (n : ℕ) : Type 0 where
+  pub is : Sound w
+  pub open-yet : w .closed ≡ false
+  pub more : w .sectors + n ≤ runSectors
+
+open-by : (w : Record) (n : ℕ) → sound w ≡ true → ended w n ≡ false → Open w n
+open-by w n s e =
+    let parts = either-false (w .closed) (ltb runSectors (w .sectors + n)) e in
+    record { is = sound-is w (subst T (sym s) tt); open-yet = parts .0; more = ltb-false runSectors (w .sectors + n) (parts .1) }
+
+pub open-not-ended : (w : Record) (n : ℕ) → Open w n → ended w n ≡ false
+open-not-ended w n o = ap₂ _||_ (o .open-yet) (le-ltb runSectors (w .sectors + n) (o .more))
+
 pub record OpenSector (w : Record) (from to : ℕ) : Type 0 where
   pub from-is : from ≡ sectorSize
   pub to-is : to ≡ sectorStream
-  pub is : Sound w
-  pub open-yet : w .closed ≡ false
-  pub more : w .sectors < sectorCount
+  pub opened : Open w 1
 
 pub sector-opens : (w : Record) (from to : ℕ) → sectorRefusal w from to ≡ 0 → OpenSector w from to
 sector-opens w from to z =
-    by (eqb from sectorSize) (eqb to sectorStream) (sound w) (w .closed) (leb sectorCount (w .sectors))
-    refl refl refl refl refl (sector-by w from to _ _ _ _ _ refl refl refl refl refl ∙ z)
+    by (eqb from sectorSize) (eqb to sectorStream) (sound w) (ended w 1) refl refl refl refl (sector-by w from to _ _ _ _ refl refl refl refl ∙ z)
   where
     by :
-        (a b c d e : Bool) → eqb from sectorSize ≡ a → eqb to sectorStream ≡ b → sound w ≡ c → w .closed ≡ d
-        → leb sectorCount (w .sectors) ≡ e
-        → _≡_ {A = ℕ} (cond (a && b) (cond c (cond (d || e) 7 0) 9) 1) 0 → OpenSector w from to
-    by false b c d e p q r s t z = absurd (omega arith)
-    by true false c d e p q r s t z = absurd (omega arith)
-    by true true false d e p q r s t z = absurd (omega arith)
-    by true true true true e p q r s t z = absurd (omega arith)
-    by true true true false true p q r s t z = absurd (omega arith)
-    by true true true false false p q r s t z =
-        record {
-          from-is = eqb-true from sectorSize p;
-          to-is = eqb-true to sectorStream q;
-          is = sound-is w (subst T (sym r) tt);
-          open-yet = s;
-          more = leb-false sectorCount (w .sectors) t;
-        }
+        (a b c d : Bool) → eqb from sectorSize ≡ a → eqb to sectorStream ≡ b → sound w ≡ c → ended w 1 ≡ d
+        → _≡_ {A = ℕ} (cond (a && b) (cond c (cond d 7 0) 9) 1) 0 → OpenSector w from to
+    by false b c d p q r s z = absurd (omega arith)
+    by true false c d p q r s z = absurd (omega arith)
+    by true true false d p q r s z = absurd (omega arith)
+    by true true true true p q r s z = absurd (omega arith)
+    by true true true false p q r s z = record { from-is = eqb-true from sectorSize p; to-is = eqb-true to sectorStream q; opened = open-by w 1 r s }
+
+-- sixteen sectors that are not refused because of the record
+pub block-opens : (w : Record) → blockRefusal w ≡ 0 → Open w sectorCount
+unfolding blockRefusal
+block-opens w z = by (sound w) (ended w sectorCount) refl refl z
+  where
+    by : (c d : Bool) → sound w ≡ c → ended w sectorCount ≡ d → _≡_ {A = ℕ} (cond c (cond d 7 0) 9) 0 → Open w sectorCount
+    by false d r s z = absurd (omega arith)
+    by true true r s z = absurd (omega arith)
+    by true false r s z = open-by w sectorCount r s
 
 pub record OpenEnd (w : Record) (to : ℕ) : Type 0 where
   pub to-is : to ≡ closingSize
   pub is : Sound w
   pub open-yet : w .closed ≡ false
-  pub full : sectorCount ≤ w .sectors
+  pub full : T (closes (w .sectors))
 
 pub closing-opens : (w : Record) (to : ℕ) → closingRefusal w to ≡ 0 → OpenEnd w to
 closing-opens w to z =
-    by (eqb to closingSize) (sound w) (w .closed) (leb sectorCount (w .sectors)) refl refl refl refl
+    by (eqb to closingSize) (sound w) (w .closed) (closes (w .sectors)) refl refl refl refl
     (closing-by w to _ _ _ _ refl refl refl refl ∙ z)
   where
     by :
-        (a c d e : Bool) → eqb to closingSize ≡ a → sound w ≡ c → w .closed ≡ d → leb sectorCount (w .sectors) ≡ e
+        (a c d e : Bool) → eqb to closingSize ≡ a → sound w ≡ c → w .closed ≡ d → closes (w .sectors) ≡ e
         → _≡_ {A = ℕ} (cond a (cond c (cond d 7 (cond e 0 8)) 9) 1) 0 → OpenEnd w to
     by false c d e p r s t z = absurd (omega arith)
     by true false d e p r s t z = absurd (omega arith)
     by true true true e p r s t z = absurd (omega arith)
     by true true false false p r s t z = absurd (omega arith)
     by true true false true p r s t z =
-        record {
-          to-is = eqb-true to closingSize p;
-          is = sound-is w (subst T (sym r) tt);
-          open-yet = s;
-          full = leb-true sectorCount (w .sectors) t;
-        }
+        record { to-is = eqb-true to closingSize p; is = sound-is w (subst T (sym r) tt); open-yet = s; full = subst T (sym t) tt }
 
 pub sector-begins :
     (w : Record) (bs out : List ℕ) → OpenSector w (length bs) (length out) → SectorBegins (runningOf w) bs out
 sector-begins w bs out o =
     record {
-      state = o .is .state;
-      room = sound-room w (o .is) sectorBits (omega arith);
+      state = o .opened .is .state;
+      room = sound-room w (o .opened .is) sectorBits (omega arith);
       bytes = o .from-is;
       whole = o .to-is;
     }

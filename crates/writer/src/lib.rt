@@ -1,4 +1,5 @@
-// The writer: sectors and the closing code by the two-stream rule of clause 22, from a record that goes in and comes back by value.
+// The writer: sectors and the closing code by the two-stream rule of clause 22, from a record that goes in and comes back by value. A run of blocks is the sectors
+// of all of them, one after the other, and then the closing code.
 mod refusal;
 mod sector;
 
@@ -6,6 +7,7 @@ ghost use mathlib.Core.Path.{_≡_};
 ghost use lib.ListN.{length};
 ghost use Rattle.writer.specs.Records.{start};
 ghost use Rattle.writer.specs.Answers.{answerNumber, sectorRefusal, sectorNext, sectorOut, closingRefusal, closingNext, closingOut};
+pub use refusal::block_refusal;
 
 // The writer's record: the State prescribed next, the NRZI level, the DSV, the sectors written, and whether the closing code is written.
 #[repr(C)]
@@ -32,7 +34,7 @@ pub struct Step {
     pub answer: Answer,
 }
 
-// The record before the first sector.
+// The record before the first sector of a run.
 pub fn new() -> Record
     ensures { λ r. ⌜ r ≡ start ⌝ }
 {
@@ -67,7 +69,7 @@ pub fn write_sector(current: Record, bytes: &[u8], out: &mut [u8]) -> Step
     }
 }
 
-// The closing code, 4 bytes.
+// The closing code after the last block of a run, 4 bytes.
 pub fn close(current: Record, out: &mut [u8]) -> Step
     ensures { λ r. ⌜ (answerNumber (r .answer) ≡ closingRefusal current (length (now (out .entry))))
         × ((r .next ≡ closingNext current (length (now (out .entry))))

@@ -2,16 +2,17 @@
 ghost use mathlib.Core.Path.{_≡_};
 ghost use mathlib.Core.Bool.{not, cond, _||_};
 ghost use Prim.Native.Nat.{_+_, _*_, _≤_};
-ghost use lib.Dec.{leb};
+ghost use lib.Dec.{leb, ltb};
 ghost use lib.IntN.{natAbs};
 ghost use Rattle.lists.specs.Count.{bit};
-ghost use Rattle.layout.specs.Lengths.{sectorCount, sectorBits};
+ghost use Rattle.layout.specs.Lengths.{sectorBits, runSectors};
 ghost use Rattle.levels.specs.Level.{zeroAt};
 ghost use Rattle.writer.specs.Records.{offset, signed, runningOf, recordOf};
-ghost use Rattle.writer.specs.Answers.{answerNumber, sound, sectorRefusal, closingRefusal};
+ghost use Rattle.writer.specs.Answers.{answerNumber, closes, sound, sectorRefusal, blockRefusal, closingRefusal};
 use super::Answer;
 use super::Record;
 use layout::CLOSING_SIZE;
+use layout::RUN_SECTORS;
 use layout::SECTOR_BITS;
 use layout::SECTOR_COUNT;
 use layout::SECTOR_SIZE;
@@ -80,7 +81,7 @@ pub(crate) fn record_of(running: Running, sectors: u32, closed: bool) -> Record
 
 // The most that the absolute DSV can be: each code bit moves it by 1.
 fn limit(sectors: u32, closed: bool) -> u64
-    requires { ⌜ sectors ≤ sectorCount ⌝ }
+    requires { ⌜ sectors ≤ runSectors ⌝ }
     ensures { λ r. ⌜ r ≡ sectorBits * sectors + 32 * bit closed ⌝ }
 {
     let bits = SECTOR_BITS * (sectors as u64);
@@ -90,11 +91,21 @@ fn limit(sectors: u32, closed: bool) -> u64
     bits
 }
 
+// Closing is accepted at so many sectors: whole blocks, at least one.
+fn closes_at(sectors: u32) -> bool
+    ensures { λ r. ⌜ r ≡ closes sectors ⌝ }
+{
+    if sectors < 1 {
+        return false;
+    }
+    sectors % SECTORS == 0
+}
+
 fn is_whole(closed: bool, sectors: u32) -> bool
-    ensures { λ r. ⌜ r ≡ not closed || leb sectorCount sectors ⌝ }
+    ensures { λ r. ⌜ r ≡ not closed || closes sectors ⌝ }
 {
     if closed {
-        return SECTORS <= sectors;
+        return closes_at(sectors);
     }
     true
 }
@@ -112,7 +123,7 @@ fn is_sound(current: Record) -> bool
     if 1 < current.level {
         return false;
     }
-    if SECTORS < current.sectors {
+    if RUN_SECTORS < current.sectors {
         return false;
     }
     if !is_whole(current.closed, current.sectors) {
@@ -124,14 +135,15 @@ fn is_sound(current: Record) -> bool
     levels::absolute(offset_of(current.dsv)) <= limit(current.sectors, current.closed)
 }
 
-// No sector may follow: the closing code is written, or the sixteenth sector.
-fn is_ended(closed: bool, sectors: u32) -> bool
-    ensures { λ r. ⌜ r ≡ closed || leb sectorCount sectors ⌝ }
+// So many sectors more can't follow: the closing code is written, or they would go over the run's last number.
+fn is_ended(closed: bool, sectors: u32, more: u32) -> bool
+    requires { ⌜ more ≤ runSectors ⌝ }
+    ensures { λ r. ⌜ r ≡ closed || ltb runSectors (sectors + more) ⌝ }
 {
     if closed {
         return true;
     }
-    SECTORS <= sectors
+    RUN_SECTORS - more < sectors
 }
 
 // The refusals because of the state, in their order (document 01): 9, then 7, then 8.
@@ -162,7 +174,18 @@ pub(crate) fn sector_refusal(current: Record, from: usize, to: usize) -> Answer
     }
     state_refusal(
         is_sound(current),
-        is_ended(current.closed, current.sectors),
+        is_ended(current.closed, current.sectors, 1),
+        false,
+    )
+}
+
+// The refusal of the sixteen sectors of a block, because of the record alone.
+pub fn block_refusal(current: Record) -> Answer
+    ensures { λ r. ⌜ answerNumber r ≡ blockRefusal current ⌝ }
+{
+    state_refusal(
+        is_sound(current),
+        is_ended(current.closed, current.sectors, SECTORS),
         false,
     )
 }
@@ -174,5 +197,5 @@ pub(crate) fn closing_refusal(current: Record, to: usize) -> Answer
     if to != CLOSING_SIZE {
         return Answer::LengthRefused;
     }
-    state_refusal(is_sound(current), current.closed, current.sectors < SECTORS)
+    state_refusal(is_sound(current), current.closed, !closes_at(current.sectors))
 }

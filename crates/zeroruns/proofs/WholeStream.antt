@@ -1,5 +1,5 @@
 -- The test of all zero runs of a stream says exactly that each of them is one that a block may have (holds-zero-runs, zero-runs-hold), and a permitted stream
--- passes it (block-zero-runs-hold).
+-- of a run passes it (run-zero-runs-hold).
 -- Assumes nothing.
 use mathlib.Core.Path.{_≡_, refl, sym, ap, subst}
 use mathlib.Core.Bool.{Bool, true, false, not, _||_}
@@ -9,12 +9,10 @@ use native.Mathlib.Nat.{zero-add}
 use native.Mathlib.Omega.{arith}
 use lib.Dec.{T}
 use lib.ListN.{length, replicate}
-use Rattle.lists.specs.Bytes.{Bytes}
 use Rattle.lists.proofs.Test.{and-left, and-right, and-both}
-use Rattle.layout.specs.Lengths.{blockSize}
 use Rattle.channel.specs.Bits.{bitsBytes, blockZeroRunFits, zeroRunsFrom, zeroRunsHold}
-use Rattle.channel.specs.Block.{permittedChoices, permittedStream}
-use Rattle.channel.proofs.BlockZeroRuns.{block-zero-runs}
+use Rattle.channel.specs.Block.{Blocks, permittedRun, runStream}
+use Rattle.channel.proofs.RunZeroRuns.{run-zero-runs}
 
 -- a zero run that fits, at places and lengths that are the same
 same-zero-run-fits : {i j k n : ℕ} → i ≡ j → k ≡ n → T (blockZeroRunFits i k) → T (blockZeroRunFits j n)
@@ -120,6 +118,6 @@ unfolding AllFit
 zero-runs-hold xs h =
     none-hold (bitsBytes xs) 0 0 (digits xs) (λ head tail k e. moved-zero-run-fits k (sym (zero-add (length head))) (h head tail k e))
 
--- a permitted stream of a block passes
-pub block-zero-runs-hold : (bs : List ℕ) (cs : List Bool) → length bs ≡ blockSize → Bytes bs → T (permittedChoices bs cs) → T (zeroRunsHold (permittedStream bs cs))
-block-zero-runs-hold bs cs e hb p = zero-runs-hold (permittedStream bs cs) (block-zero-runs bs cs e hb p)
+-- a permitted stream of a run passes
+pub run-zero-runs-hold : (run : List (List ℕ)) (cs : List Bool) → Blocks run → T (permittedRun run cs) → T (zeroRunsHold (runStream run cs))
+run-zero-runs-hold run cs h p = zero-runs-hold (runStream run cs) (run-zero-runs run cs h p)

@@ -31,7 +31,7 @@ running-of-requires c κs =
     let asked = told .before in
     let w = asked .before .before .before .args .current in
     let done = done-number (asked .sector-refusal .result) (told .match .keys1) in
-    near w (sector-opens w _ _ (sym (asked .sector-refusal .ensures) ∙ done) .is)
+    near w (sector-opens w _ _ (sym (asked .sector-refusal .ensures) ∙ done) .opened .is)
 
 sector-requires : tie.Need-sector-requires
 sector-requires c κs =
@@ -52,7 +52,7 @@ add-record-of c =
     let asked = told .before in
     let w = asked .before .before .before .args .current in
     let done = done-number (asked .sector-refusal .result) (told .match .keys1) in
-    omega (arith, sector-opens w _ _ (sym (asked .sector-refusal .ensures) ∙ done) .more)
+    omega (arith, sector-opens w _ _ (sym (asked .sector-refusal .ensures) ∙ done) .opened .more)
 
 record-of-requires : tie.Need-record-of-requires
 record-of-requires c κs =
@@ -64,7 +64,7 @@ record-of-requires c κs =
     let done = done-number (asked .sector-refusal .result) (told .match .keys1) in
     let opens = sector-opens (a .current) _ _ (sym (asked .sector-refusal .ensures) ∙ done) in
     let from = ap (λ (z : Running). sectorOf z (a .bytes .now) .running) (running .running-of .ensures) in
-    sector-small (a .current) (a .bytes .now) _ (opens .is) (laid .sector .ensures .0 ∙ from)
+    sector-small (a .current) (a .bytes .now) _ (opens .opened .is) (laid .sector .ensures .0 ∙ from)
 
 same-length : tie.Need-same-length
 same-length c = search needs

@@ -16,16 +16,20 @@ returns c =
 is-sound-requires : tie.Need-is-sound-requires
 is-sound-requires c κs = search needs
 
+closes-at-requires : tie.Need-closes-at-requires
+closes-at-requires c κs = search needs
+
 state-refusal-requires : tie.Need-state-refusal-requires
 state-refusal-requires c κs = search needs
 
 returns-2 : tie.Need-returns-2
 returns-2 c =
-    let sounded = c .before .before in
+    let counted = c .before in
+    let sounded = counted .before in
     let a = sounded .before .before .args in
-    closing-by-state (a .current) (a .to) _ _ (sounded .before .if1 .left) (sounded .is-sound .ensures)
+    closing-by-state (a .current) (a .to) _ _ _ (sounded .before .if1 .left) (sounded .is-sound .ensures) (counted .closes-at .ensures)
     (c .state-refusal .ensures)
 
 pub closing-refusal-spec : {M : Type 1} → statement M
 closing-refusal-spec =
-    tie.close (tie.spec returns is-sound-requires state-refusal-requires returns-2)
+    tie.close (tie.spec returns is-sound-requires closes-at-requires state-refusal-requires returns-2)

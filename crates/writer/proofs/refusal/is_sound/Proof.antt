@@ -8,6 +8,7 @@ use lib.Dec.{leb}
 use lib.IntN.{ℤ, natAbs}
 use mir.Syntax.{w64}
 use mir.ValLaws.{toZ-ofZ}
+use Rattle.layout.specs.Lengths.{runSectors}
 use Rattle.levels.specs.Level.{zeroAt, magnitude}
 use Rattle.writer.specs.Records.{offset}
 use Rattle.writer.proofs.Signed.{abs-offset}
@@ -41,7 +42,7 @@ returns-4 c =
     let one = four .before .before in
     let w = one .before .before .args .current in
     sound-by w true true true false _ _ (le-leb 1 _ (one .if1 .left)) (le-leb _ 4 (four .if2 .left))
-    (le-leb _ 1 (level .if3 .left)) (lt-leb _ 16 (c .if4 .taken)) refl refl
+    (le-leb _ 1 (level .if3 .left)) (lt-leb _ runSectors (c .if4 .taken)) refl refl
 
 is-whole-requires : tie.Need-is-whole-requires
 is-whole-requires c κs = search needs

@@ -11,14 +11,14 @@ use Rattle.writer.proofs.refusal.sector_refusal.Tie as tie
 returns : tie.Need-returns
 returns c =
     let a = c .before .args in
-    sector-by (a .current) (a .from) (a .to) false _ _ _ _ (ne-eqb _ _ (c .if1 .taken)) refl refl refl refl
+    sector-by (a .current) (a .from) (a .to) false _ _ _ (ne-eqb _ _ (c .if1 .taken)) refl refl refl
 
 returns-2 : tie.Need-returns-2
 returns-2 c =
     let measured = c .before in
     let a = measured .before .args in
-    sector-by (a .current) (a .from) (a .to) true false _ _ _ (eq-eqb _ _ (measured .if1 .left)) (ne-eqb _ _ (c .if2 .taken))
-    refl refl refl
+    sector-by (a .current) (a .from) (a .to) true false _ _ (eq-eqb _ _ (measured .if1 .left)) (ne-eqb _ _ (c .if2 .taken))
+    refl refl
 
 is-sound-requires : tie.Need-is-sound-requires
 is-sound-requires c κs = search needs
