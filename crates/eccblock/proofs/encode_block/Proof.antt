@@ -3,7 +3,7 @@ use mathlib.Core.Path.{_≡_, _∙_}
 use native.Mathlib.Omega.{arith}
 use lib.ListN.{length}
 use Rattle.eccblock.specs.Encode.{encodeRefusal, encodeNumber}
-use Rattle.eccblock.proofs.Refusals.{main-length, buffer-length, not-sixteen, number-over, by-information, buffer-left, buffer-made}
+use Rattle.eccblock.proofs.Refusals.{main-length, buffer-length, not-sixteen, number-over, by-judgement, buffer-left, buffer-made}
 use borrow.Author.Needs.{needs}
 use Rattle.eccblock.proofs.encode_block.Statement.{statement}
 use Rattle.eccblock.proofs.encode_block.Tie as tie
@@ -11,14 +11,14 @@ use Rattle.eccblock.proofs.encode_block.Tie as tie
 returns : tie.Need-returns
 returns c =
     let a = c .before .before .before .args in
-    let e = main-length (length (a .main .now)) (length (a .out .now)) (a .first) (a .info) (c .if1 .taken) in
-    (e, buffer-left (a .main .now) (a .first) (a .info) (a .out .now) 1 e (λ z. omega (arith, z)))
+    let e = main-length (a .previous) (length (a .main .now)) (length (a .out .now)) (a .first) (a .info) (c .if1 .taken) in
+    (e, buffer-left (a .previous) (a .main .now) (a .first) (a .info) (a .out .now) 1 e (λ z. omega (arith, z)))
 
 returns-2 : tie.Need-returns-2
 returns-2 c =
     let a = c .before .before .before .before .args in
-    let e = buffer-length (length (a .main .now)) (length (a .out .now)) (a .first) (a .info) (c .before .if1 .left) (c .if2 .taken) in
-    (e, buffer-left (a .main .now) (a .first) (a .info) (a .out .now) 1 e (λ z. omega (arith, z)))
+    let e = buffer-length (a .previous) (length (a .main .now)) (length (a .out .now)) (a .first) (a .info) (c .before .if1 .left) (c .if2 .taken) in
+    (e, buffer-left (a .previous) (a .main .now) (a .first) (a .info) (a .out .now) 1 e (λ z. omega (arith, z)))
 
 returns-3 : tie.Need-returns-3
 returns-3 c =
@@ -26,8 +26,8 @@ returns-3 c =
     let whole = fits .before in
     let a = whole .before .before .before .args in
     let e =
-    not-sixteen (length (a .main .now)) (length (a .out .now)) (a .first) (a .info) (whole .if1 .left) (fits .if2 .left) (c .if3 .taken) in
-    (e, buffer-left (a .main .now) (a .first) (a .info) (a .out .now) 2 e (λ z. omega (arith, z)))
+    not-sixteen (a .previous) (length (a .main .now)) (length (a .out .now)) (a .first) (a .info) (whole .if1 .left) (fits .if2 .left) (c .if3 .taken) in
+    (e, buffer-left (a .previous) (a .main .now) (a .first) (a .info) (a .out .now) 2 e (λ z. omega (arith, z)))
 
 returns-4 : tie.Need-returns-4
 returns-4 c =
@@ -36,12 +36,12 @@ returns-4 c =
     let whole = fits .before in
     let a = whole .before .before .before .args in
     let e =
-    number-over (length (a .main .now)) (length (a .out .now)) (a .first) (a .info) (whole .if1 .left) (fits .if2 .left) (sixteen .if3 .left)
+    number-over (a .previous) (length (a .main .now)) (length (a .out .now)) (a .first) (a .info) (whole .if1 .left) (fits .if2 .left) (sixteen .if3 .left)
     (c .if4 .taken) in
-    (e, buffer-left (a .main .now) (a .first) (a .info) (a .out .now) 2 e (λ z. omega (arith, z)))
+    (e, buffer-left (a .previous) (a .main .now) (a .first) (a .info) (a .out .now) 2 e (λ z. omega (arith, z)))
 
-judge-information-requires : tie.Need-judge-information-requires
-judge-information-requires c κs = search needs
+judge-requires : tie.Need-judge-requires
+judge-requires c κs = search needs
 
 encode-number-requires : tie.Need-encode-number-requires
 encode-number-requires c κs = search needs
@@ -53,13 +53,13 @@ returns-5 c =
     let fits = sixteen .before in
     let whole = fits .before in
     let a = whole .before .before .before .args in
-    let answer = c .before .before .judge-information in
-    let e : encodeNumber (answer .result) ≡ encodeRefusal (length (a .main .now)) (length (a .out .now)) (a .first) (a .info) =
+    let answer = c .before .before .judge in
+    let e : encodeNumber (answer .result) ≡ encodeRefusal (a .previous) (length (a .main .now)) (length (a .out .now)) (a .first) (a .info) =
     answer .ensures
-    ∙ by-information (length (a .main .now)) (length (a .out .now)) (a .first) (a .info) (whole .if1 .left) (fits .if2 .left) (sixteen .if3 .left)
+    ∙ by-judgement (a .previous) (length (a .main .now)) (length (a .out .now)) (a .first) (a .info) (whole .if1 .left) (fits .if2 .left) (sixteen .if3 .left)
     (passed .if4 .left) in (
       e,
-      buffer-left (a .main .now) (a .first) (a .info) (a .out .now) (encodeNumber (answer .result)) e
+      buffer-left (a .previous) (a .main .now) (a .first) (a .info) (a .out .now) (encodeNumber (answer .result)) e
           (λ z. omega (arith, z, c .before .encode-number .ensures, c .if5 .taken)),
     )
 
@@ -77,14 +77,14 @@ returns-6 c =
     let fits = sixteen .before in
     let whole = fits .before in
     let a = whole .before .before .before .args in
-    let answer = judged .before .before .judge-information in
-    let e : encodeNumber (answer .result) ≡ encodeRefusal (length (a .main .now)) (length (a .out .now)) (a .first) (a .info) =
+    let answer = judged .before .before .judge in
+    let e : encodeNumber (answer .result) ≡ encodeRefusal (a .previous) (length (a .main .now)) (length (a .out .now)) (a .first) (a .info) =
     answer .ensures
-    ∙ by-information (length (a .main .now)) (length (a .out .now)) (a .first) (a .info) (whole .if1 .left) (fits .if2 .left) (sixteen .if3 .left)
+    ∙ by-judgement (a .previous) (length (a .main .now)) (length (a .out .now)) (a .first) (a .info) (whole .if1 .left) (fits .if2 .left) (sixteen .if3 .left)
     (passed .if4 .left) in (
       e,
       c .before .before .fill-block .ensures
-          ∙ buffer-made (a .main .now) (a .first) (a .info) (a .out .now) (encodeNumber (answer .result)) e
+          ∙ buffer-made (a .previous) (a .main .now) (a .first) (a .info) (a .out .now) (encodeNumber (answer .result)) e
           (omega (arith, judged .before .encode-number .ensures, judged .if5 .left)),
     )
 
@@ -96,7 +96,7 @@ encode-block-spec =
     returns-2
     returns-3
     returns-4
-    judge-information-requires
+    judge-requires
     encode-number-requires
     returns-5
     fill-block-requires
