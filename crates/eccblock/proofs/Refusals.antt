@@ -56,16 +56,20 @@ module _ (previous : Previous) (first info : ℕ) where
     pub following : follows previous first ≡ true → 0 ≡ judged previous first info
     following h = rw (eq-eqb (bitAnd info 0xD2) 0 p, h)
 
--- ---- the buffer
+-- ---- the answer and the buffer
 
 module _ (previous : Previous) (main : List ℕ) (first info : ℕ) (old : List ℕ) where
-  pub buffer-left : (r : ℕ) → r ≡ encodeRefusal previous (length main) (length old) first info → r ≢ 0 → old ≡ encodedBuffer previous main first info old
-  unfolding encodedBuffer
-  buffer-left r e h = rw (ne-eqb (encodeRefusal previous (length main) (length old) first info) 0 (λ z. h (e ∙ z)))
+  abbrev refusal : ℕ
+  refusal = encodeRefusal previous (length main) (length old) first info
 
-  pub buffer-made : (r : ℕ) → r ≡ encodeRefusal previous (length main) (length old) first info → r ≡ 0 → block main first info ≡ encodedBuffer previous main first info old
+  pub refused-and-left : {r : ℕ} → r ≡ refusal → r ≢ 0 → (r ≡ refusal) × (old ≡ encodedBuffer previous main first info old)
   unfolding encodedBuffer
-  buffer-made r e h = rw (eq-eqb (encodeRefusal previous (length main) (length old) first info) 0 (sym e ∙ h))
+  refused-and-left e h = (e, rw (ne-eqb refusal 0 (λ z. h (e ∙ z))))
+
+  pub taken-and-made :
+      {r : ℕ} {new : List ℕ} → r ≡ refusal → r ≡ 0 → new ≡ block main first info → (r ≡ refusal) × (new ≡ encodedBuffer previous main first info old)
+  unfolding encodedBuffer
+  taken-and-made e h made = (e, made ∙ rw (eq-eqb refusal 0 (sym e ∙ h)))
 
 -- ---- an accepted block
 
