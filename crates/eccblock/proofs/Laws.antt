@@ -25,11 +25,12 @@ use Rattle.dataframe.specs.Checks.{infoOf, numberOf, mainOf, frameRefusal, main
 use Rattle.dataframe.proofs.Laws as one
 use Rattle.eccblock.specs.Block.{mainPart, frame, dataByte, column, codeColumn, row, codeRow, blockByte, block}
 use Rattle.eccblock.specs.Encode.{Accepted}
+use Rattle.eccblock.specs.declared.Previous.{Previous}
 use Rattle.eccblock.proofs.Refusals.{Facts, accepted-facts}
 use Rattle.eccblock.proofs.Cells.{column-length, column-at, code-column-length, code-column-data, code-row-length, code-row-data}
 
-module _ (main : List ℕ) (first info : ℕ) (ok : Accepted main first info) where
-  facts : Facts main first info
+module _ {previous : Previous} (main : List ℕ) (first info : ℕ) (ok : Accepted previous main first info) where
+  facts : Facts previous main first info
   facts = accepted-facts main first info ok
 
   abbrev made : List ℕ

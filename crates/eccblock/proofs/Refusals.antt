@@ -13,50 +13,63 @@ use lib.ListN.{length}
 use Rattle.layout.specs.Lengths.{mainSize, blockSize, lastFirst}
 use Rattle.dataframe.specs.Frame.{isPermitted}
 use Rattle.eccblock.specs.Block.{block}
-use Rattle.eccblock.specs.Encode.{encodeRefusal, encodedBuffer, Accepted}
+use Rattle.eccblock.specs.Encode.{follows, encodeRefusal, encodedBuffer, Accepted}
+use Rattle.eccblock.specs.declared.Previous.{Previous}
 
-module _ (n m first info : ℕ) where
-  pub main-length : n ≢ mainSize → 1 ≡ encodeRefusal n m first info
+-- the number where neither 1 nor 2 applies
+abbrev judged : Previous → ℕ → ℕ → ℕ
+judged previous first info = cond (isPermitted info) (cond (follows previous first) 0 10) 3
+
+module _ (previous : Previous) (n m first info : ℕ) where
+  pub main-length : n ≢ mainSize → 1 ≡ encodeRefusal previous n m first info
   unfolding encodeRefusal
   main-length h = rw (ne-eqb n mainSize h)
 
   module _ (e : n ≡ mainSize) where
-    pub buffer-length : m ≢ blockSize → 1 ≡ encodeRefusal n m first info
+    pub buffer-length : m ≢ blockSize → 1 ≡ encodeRefusal previous n m first info
     unfolding encodeRefusal
     buffer-length h = rw (eq-eqb n mainSize e, ne-eqb m blockSize h)
 
     module _ (f : m ≡ blockSize) where
-      pub not-sixteen : first % 16 ≢ 0 → 2 ≡ encodeRefusal n m first info
+      pub not-sixteen : first % 16 ≢ 0 → 2 ≡ encodeRefusal previous n m first info
       unfolding encodeRefusal
       not-sixteen h = rw (eq-eqb n mainSize e, eq-eqb m blockSize f, ne-eqb (first % 16) 0 h)
 
       module _ (g : first % 16 ≡ 0) where
-        pub number-over : lastFirst < first → 2 ≡ encodeRefusal n m first info
+        pub number-over : lastFirst < first → 2 ≡ encodeRefusal previous n m first info
         unfolding encodeRefusal
         number-over h = rw (eq-eqb n mainSize e, eq-eqb m blockSize f, eq-eqb (first % 16) 0 g, lt-leb first lastFirst h)
 
         module _ (l : first ≤ lastFirst) where
-          pub by-information : cond (isPermitted info) 0 3 ≡ encodeRefusal n m first info
+          pub by-judgement : judged previous first info ≡ encodeRefusal previous n m first info
           unfolding encodeRefusal
-          by-information = rw (eq-eqb n mainSize e, eq-eqb m blockSize f, eq-eqb (first % 16) 0 g, le-leb first lastFirst l)
+          by-judgement = rw (eq-eqb n mainSize e, eq-eqb m blockSize f, eq-eqb (first % 16) 0 g, le-leb first lastFirst l)
 
-module _ (info : ℕ) where
-  pub prohibited : bitAnd info 0xD2 ≢ 0 → _≡_ {A = ℕ} 3 (cond (isPermitted info) 0 3)
+module _ (previous : Previous) (first info : ℕ) where
+  pub prohibited : bitAnd info 0xD2 ≢ 0 → 3 ≡ judged previous first info
   prohibited h = rw (ne-eqb (bitAnd info 0xD2) 0 h)
 
-  pub permitted : bitAnd info 0xD2 ≡ 0 → _≡_ {A = ℕ} 0 (cond (isPermitted info) 0 3)
-  permitted h = rw (eq-eqb (bitAnd info 0xD2) 0 h)
+  module _ (p : bitAnd info 0xD2 ≡ 0) where
+    pub not-following : follows previous first ≡ false → 10 ≡ judged previous first info
+    not-following h = rw (eq-eqb (bitAnd info 0xD2) 0 p, h)
 
--- ---- the buffer
+    pub following : follows previous first ≡ true → 0 ≡ judged previous first info
+    following h = rw (eq-eqb (bitAnd info 0xD2) 0 p, h)
 
-module _ (main : List ℕ) (first info : ℕ) (old : List ℕ) where
-  pub buffer-left : (r : ℕ) → r ≡ encodeRefusal (length main) (length old) first info → r ≢ 0 → old ≡ encodedBuffer main first info old
+-- ---- the answer and the buffer
+
+module _ (previous : Previous) (main : List ℕ) (first info : ℕ) (old : List ℕ) where
+  abbrev refusal : ℕ
+  refusal = encodeRefusal previous (length main) (length old) first info
+
+  pub refused-and-left : {r : ℕ} → r ≡ refusal → r ≢ 0 → (r ≡ refusal) × (old ≡ encodedBuffer previous main first info old)
   unfolding encodedBuffer
-  buffer-left r e h = rw (ne-eqb (encodeRefusal (length main) (length old) first info) 0 (λ z. h (e ∙ z)))
+  refused-and-left e h = (e, rw (ne-eqb refusal 0 (λ z. h (e ∙ z))))
 
-  pub buffer-made : (r : ℕ) → r ≡ encodeRefusal (length main) (length old) first info → r ≡ 0 → block main first info ≡ encodedBuffer main first info old
+  pub taken-and-made :
+      {r : ℕ} {new : List ℕ} → r ≡ refusal → r ≡ 0 → new ≡ block main first info → (r ≡ refusal) × (new ≡ encodedBuffer previous main first info old)
   unfolding encodedBuffer
-  buffer-made r e h = rw (eq-eqb (encodeRefusal (length main) (length old) first info) 0 (sym e ∙ h))
+  taken-and-made e h made = (e, made ∙ rw (eq-eqb refusal 0 (sym e ∙ h)))
 
 -- ---- an accepted block
 
@@ -68,19 +81,27 @@ not-refused : (b : Bool) (n m : ℕ) → cond b m (suc n) ≡ 0 → (b ≡ true)
 not-refused true n m e = (refl, e)
 not-refused false n m e = absurd (omega arith)
 
-pub record Facts (main : List ℕ) (first info : ℕ) : Type 0 where
+pub record Facts (previous : Previous) (main : List ℕ) (first info : ℕ) : Type 0 where
   pub whole : length main ≡ mainSize
   pub sixteen : first % 16 ≡ 0
   pub small : first ≤ lastFirst
   pub permitted : isPermitted info ≡ true
+  pub following : follows previous first ≡ true
 
-pub accepted-facts : (main : List ℕ) (first info : ℕ) → Accepted main first info → Facts main first info
+pub accepted-facts : {previous : Previous} (main : List ℕ) (first info : ℕ) → Accepted previous main first info → Facts previous main first info
 unfolding encodeRefusal
-accepted-facts main first info ok =
+accepted-facts {previous} main first info ok =
     let n = length main in
     let a = not-refused (eqb n mainSize && eqb blockSize blockSize) 0 _ (ok .taken) in
     let b = not-refused (eqb (first % 16) 0 && leb first lastFirst) 1 _ (a .1) in
-    let c = not-refused (isPermitted info) 2 0 (b .1) in
+    let c = not-refused (isPermitted info) 2 _ (b .1) in
+    let d = not-refused (follows previous first) 9 0 (c .1) in
     let p = and-parts (eqb n mainSize) (eqb blockSize blockSize) (a .0) in
     let q = and-parts (eqb (first % 16) 0) (leb first lastFirst) (b .0) in
-    record { whole = eqb-true n mainSize (p .0); sixteen = eqb-true (first % 16) 0 (q .0); small = leb-true first lastFirst (q .1); permitted = c .0 }
+    record {
+      whole = eqb-true n mainSize (p .0);
+      sixteen = eqb-true (first % 16) 0 (q .0);
+      small = leb-true first lastFirst (q .1);
+      permitted = c .0;
+      following = d .0;
+    }

@@ -1,3 +1,4 @@
 pub mod Block
 pub mod Encode
+pub mod Run
 pub mod Inner

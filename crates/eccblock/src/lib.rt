@@ -12,7 +12,7 @@ ghost use Rattle.field.specs.Inner.{LogTable};
 ghost use Rattle.multiples.specs.Inner.{multiples};
 ghost use Rattle.dataframe.specs.Frame.{isPermitted};
 ghost use Rattle.eccblock.specs.Block.{frame, block};
-ghost use Rattle.eccblock.specs.Encode.{encodeRefusal, encodeNumber, encodedBuffer};
+ghost use Rattle.eccblock.specs.Encode.{follows, encodeRefusal, encodeNumber, encodedBuffer};
 ghost use Rattle.eccblock.specs.Inner.{Frames, Columns, Rows};
 use layout::BLOCK_SIZE;
 use layout::COLUMN_COUNT;
@@ -27,12 +27,19 @@ use layout::ROW_SIZE;
 use layout::SECTOR_COUNT;
 use layout::SECTOR_ROWS;
 
-// What the block maker answers. Document 01's number of each is `encodeNumber`.
+// The block before: none, where a run begins, or its first number (document 02, request 1).
+pub enum Previous {
+    None,
+    First(u32),
+}
+
+// What the block maker answers. The number of each, document 01's or 02's, is `encodeNumber`.
 pub enum Encoded {
     Block,
     LengthRefused,
     NumberRefused,
     InformationRefused,
+    SequenceRefused,
 }
 
 // ---- the frames in their rows
@@ -151,21 +158,40 @@ fn fill_block(main: &[u8], first: u32, info: u8, out: &mut [u8])
     add_inner(&inner, out);
 }
 
-// The answer by the Sector Information byte, where no lower number applies.
-fn judge_information(info: u8) -> Encoded
-    ensures { λ r. ⌜ encodeNumber r ≡ cond (isPermitted info) 0 3 ⌝ }
+// Whether the block follows on the one before. In 64 bits the sum does not wrap around to 0.
+fn follows_on(previous: Previous, first: u32) -> bool
+    ensures { λ r. ⌜ r ≡ follows previous first ⌝ }
+{
+    match previous {
+        Previous::None => true,
+        Previous::First(before) => first as u64 == before as u64 + 16,
+    }
+}
+
+// The answer by the Sector Information byte and the block before, where no lower number applies.
+fn judge(previous: Previous, first: u32, info: u8) -> Encoded
+    ensures { λ r. ⌜ encodeNumber r ≡ cond (isPermitted info) (cond (follows previous first) 0 10) 3 ⌝ }
 {
     if info & 0xD2 != 0 {
         return Encoded::InformationRefused;
+    }
+    if !follows_on(previous, first) {
+        return Encoded::SequenceRefused;
     }
     Encoded::Block
 }
 
 // The block maker. Where it refuses, the buffer is left as it was.
-pub fn encode_block(main: &[u8], first: u32, info: u8, out: &mut [u8]) -> Encoded
+pub fn encode_block(
+    main: &[u8],
+    previous: Previous,
+    first: u32,
+    info: u8,
+    out: &mut [u8],
+) -> Encoded
     ensures { λ r. ⌜ encodeNumber r
-        ≡ encodeRefusal (length (now (main .entry))) (length (now (out .entry))) first info ⌝ }
-    ensures { λ r. ⌜ now (out .exit) ≡ encodedBuffer (now (main .entry)) first info (now (out .entry)) ⌝ }
+        ≡ encodeRefusal previous (length (now (main .entry))) (length (now (out .entry))) first info ⌝ }
+    ensures { λ r. ⌜ now (out .exit) ≡ encodedBuffer previous (now (main .entry)) first info (now (out .entry)) ⌝ }
 {
     if main.len() != MAIN_SIZE {
         return Encoded::LengthRefused;
@@ -179,7 +205,7 @@ pub fn encode_block(main: &[u8], first: u32, info: u8, out: &mut [u8]) -> Encode
     if LAST_FIRST < first {
         return Encoded::NumberRefused;
     }
-    let answer = judge_information(info);
+    let answer = judge(previous, first, info);
     if encode_number(answer) != 0 {
         return answer;
     }
@@ -187,7 +213,7 @@ pub fn encode_block(main: &[u8], first: u32, info: u8, out: &mut [u8]) -> Encode
     answer
 }
 
-// Document 01's number of an answer, 0 where nothing is refused.
+// The documents' number of an answer, 0 where nothing is refused.
 pub fn encode_number(answer: Encoded) -> u8
     ensures { λ r. ⌜ r ≡ encodeNumber answer ⌝ }
 {
@@ -196,5 +222,6 @@ pub fn encode_number(answer: Encoded) -> u8
         Encoded::LengthRefused => 1,
         Encoded::NumberRefused => 2,
         Encoded::InformationRefused => 3,
+        Encoded::SequenceRefused => 10,
     }
 }

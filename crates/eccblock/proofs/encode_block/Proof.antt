@@ -3,45 +3,32 @@ use mathlib.Core.Path.{_≡_, _∙_}
 use native.Mathlib.Omega.{arith}
 use lib.ListN.{length}
 use Rattle.eccblock.specs.Encode.{encodeRefusal, encodeNumber}
-use Rattle.eccblock.proofs.Refusals.{main-length, buffer-length, not-sixteen, number-over, by-information, buffer-left, buffer-made}
+use Rattle.eccblock.proofs.Refusals.{main-length, buffer-length, not-sixteen, number-over, by-judgement, refused-and-left, taken-and-made}
 use borrow.Author.Needs.{needs}
 use Rattle.eccblock.proofs.encode_block.Statement.{statement}
 use Rattle.eccblock.proofs.encode_block.Tie as tie
 
 returns : tie.Need-returns
-returns c =
-    let a = c .before .before .before .args in
-    let e = main-length (length (a .main .now)) (length (a .out .now)) (a .first) (a .info) (c .if1 .taken) in
-    (e, buffer-left (a .main .now) (a .first) (a .info) (a .out .now) 1 e (λ z. omega (arith, z)))
+returns c = refused-and-left _ _ _ _ _ (main-length _ _ _ _ _ (c .if1 .taken)) (λ z. omega (arith, z))
 
 returns-2 : tie.Need-returns-2
-returns-2 c =
-    let a = c .before .before .before .before .args in
-    let e = buffer-length (length (a .main .now)) (length (a .out .now)) (a .first) (a .info) (c .before .if1 .left) (c .if2 .taken) in
-    (e, buffer-left (a .main .now) (a .first) (a .info) (a .out .now) 1 e (λ z. omega (arith, z)))
+returns-2 c = refused-and-left _ _ _ _ _ (buffer-length _ _ _ _ _ (c .before .if1 .left) (c .if2 .taken)) (λ z. omega (arith, z))
 
 returns-3 : tie.Need-returns-3
 returns-3 c =
     let fits = c .before in
     let whole = fits .before in
-    let a = whole .before .before .before .args in
-    let e =
-    not-sixteen (length (a .main .now)) (length (a .out .now)) (a .first) (a .info) (whole .if1 .left) (fits .if2 .left) (c .if3 .taken) in
-    (e, buffer-left (a .main .now) (a .first) (a .info) (a .out .now) 2 e (λ z. omega (arith, z)))
+    refused-and-left _ _ _ _ _ (not-sixteen _ _ _ _ _ (whole .if1 .left) (fits .if2 .left) (c .if3 .taken)) (λ z. omega (arith, z))
 
 returns-4 : tie.Need-returns-4
 returns-4 c =
     let sixteen = c .before in
     let fits = sixteen .before in
     let whole = fits .before in
-    let a = whole .before .before .before .args in
-    let e =
-    number-over (length (a .main .now)) (length (a .out .now)) (a .first) (a .info) (whole .if1 .left) (fits .if2 .left) (sixteen .if3 .left)
-    (c .if4 .taken) in
-    (e, buffer-left (a .main .now) (a .first) (a .info) (a .out .now) 2 e (λ z. omega (arith, z)))
+    refused-and-left _ _ _ _ _ (number-over _ _ _ _ _ (whole .if1 .left) (fits .if2 .left) (sixteen .if3 .left) (c .if4 .taken)) (λ z. omega (arith, z))
 
-judge-information-requires : tie.Need-judge-information-requires
-judge-information-requires c κs = search needs
+judge-requires : tie.Need-judge-requires
+judge-requires c κs = search needs
 
 encode-number-requires : tie.Need-encode-number-requires
 encode-number-requires c κs = search needs
@@ -52,16 +39,8 @@ returns-5 c =
     let sixteen = passed .before in
     let fits = sixteen .before in
     let whole = fits .before in
-    let a = whole .before .before .before .args in
-    let answer = c .before .before .judge-information in
-    let e : encodeNumber (answer .result) ≡ encodeRefusal (length (a .main .now)) (length (a .out .now)) (a .first) (a .info) =
-    answer .ensures
-    ∙ by-information (length (a .main .now)) (length (a .out .now)) (a .first) (a .info) (whole .if1 .left) (fits .if2 .left) (sixteen .if3 .left)
-    (passed .if4 .left) in (
-      e,
-      buffer-left (a .main .now) (a .first) (a .info) (a .out .now) (encodeNumber (answer .result)) e
-          (λ z. omega (arith, z, c .before .encode-number .ensures, c .if5 .taken)),
-    )
+    let judged = by-judgement _ _ _ _ _ (whole .if1 .left) (fits .if2 .left) (sixteen .if3 .left) (passed .if4 .left) in
+    refused-and-left _ _ _ _ _ (c .before .before .judge .ensures ∙ judged) (λ z. omega (arith, z, c .before .encode-number .ensures, c .if5 .taken))
 
 fill-block-requires : tie.Need-fill-block-requires
 fill-block-requires c κs = search needs
@@ -71,22 +50,15 @@ same-length c = search needs
 
 returns-6 : tie.Need-returns-6
 returns-6 c =
-    let judged = c .before .before .before .before in
-    let passed = judged .before .before .before in
+    let filled = c .before .before in
+    let numbered = filled .before .before in
+    let passed = numbered .before .before .before in
     let sixteen = passed .before in
     let fits = sixteen .before in
     let whole = fits .before in
-    let a = whole .before .before .before .args in
-    let answer = judged .before .before .judge-information in
-    let e : encodeNumber (answer .result) ≡ encodeRefusal (length (a .main .now)) (length (a .out .now)) (a .first) (a .info) =
-    answer .ensures
-    ∙ by-information (length (a .main .now)) (length (a .out .now)) (a .first) (a .info) (whole .if1 .left) (fits .if2 .left) (sixteen .if3 .left)
-    (passed .if4 .left) in (
-      e,
-      c .before .before .fill-block .ensures
-          ∙ buffer-made (a .main .now) (a .first) (a .info) (a .out .now) (encodeNumber (answer .result)) e
-          (omega (arith, judged .before .encode-number .ensures, judged .if5 .left)),
-    )
+    let judged = by-judgement _ _ _ _ _ (whole .if1 .left) (fits .if2 .left) (sixteen .if3 .left) (passed .if4 .left) in
+    taken-and-made _ _ _ _ _ (numbered .before .before .judge .ensures ∙ judged) (omega (arith, numbered .before .encode-number .ensures, numbered .if5 .left))
+    (filled .fill-block .ensures)
 
 pub encode-block-spec : {M : Type 1} → statement M
 encode-block-spec =
@@ -96,7 +68,7 @@ encode-block-spec =
     returns-2
     returns-3
     returns-4
-    judge-information-requires
+    judge-requires
     encode-number-requires
     returns-5
     fill-block-requires
