@@ -1,14 +1,31 @@
--- The vocabulary of inner contracts: the parts of a stream buffer that are lent to the writer. Nobody needs to believe it.
+-- The vocabulary of inner contracts: the parts of a stream buffer that are lent to the writer (sectorRoom), the writer's answer on a block's record as the
+-- formatter's (recordNumber), and what is refused but for the length of the stream buffer (madeRefusal). Nobody needs to believe it.
 -- Assumes nothing.
+use mathlib.Core.Bool.{cond}
 use mathlib.Core.List.{List}
 use Prim.Native.Nat.{ℕ, _*_}
+use lib.Dec.{eqb}
 use lib.ListN.{take, drop}
-use Rattle.layout.specs.Lengths.{sectorStream, sectorsStream}
+use Rattle.eccblock.specs.Encode.{encodeRefusal}
+use Rattle.eccblock.specs.declared.Previous.{Previous}
+use Rattle.layout.specs.Lengths.{blockSize, sectorStream}
+use Rattle.writer.specs.Answers.{blockRefusal}
+use Rattle.writer.specs.declared.Answer.{Answer}
+use Rattle.writer.specs.declared.Answer.the-variants.{Done, LengthRefused, RunEnded, RunUnfinished, BadRecord}
+use Rattle.writer.specs.declared.Record.{Record}
 
 -- for sector k
 abbrev pub sectorRoom : List ℕ → ℕ → List ℕ
 sectorRoom old k = take sectorStream (drop (sectorStream * k) old)
 
--- for the closing code
-abbrev pub closingRoom : List ℕ → List ℕ
-closingRoom old = drop sectorsStream old
+-- a block asks for no buffer of the writer and does not close: the writer refuses it with 7 or 9 only
+abbrev pub recordNumber : Answer → ℕ
+recordNumber Done = 0
+recordNumber LengthRefused = 9
+recordNumber RunEnded = 7
+recordNumber RunUnfinished = 9
+recordNumber BadRecord = 9
+
+abbrev pub madeRefusal : Record → Previous → ℕ → ℕ → ℕ → ℕ
+madeRefusal w previous n first info =
+    cond (eqb (encodeRefusal previous n blockSize first info) 0) (blockRefusal w) (encodeRefusal previous n blockSize first info)

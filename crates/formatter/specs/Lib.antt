@@ -1,3 +1,4 @@
 pub mod Formatter
+pub mod Session
 pub mod Hexadecimal
 pub mod Inner

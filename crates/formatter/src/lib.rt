@@ -1,16 +1,16 @@
-// The formatter: a block's main data to its stream of sixteen sectors and the closing code, by the block maker and then the writer from a new record.
+// The formatter: main data to a stream, by the block maker and then the writer. A whole block of a run at a time (`write_block`), or the run of one block with its
+// closing code (`format_block`).
 mod hexadecimal;
 
 ghost use mathlib.Core.Path.{_≡_};
-ghost use mathlib.Core.List.{_++_};
 ghost use lib.ListN.{length};
-ghost use Rattle.eccblock.specs.Encode.{encodeNumber};
-ghost use Rattle.writer.specs.Records.{start};
-ghost use Rattle.writer.specs.Session.{sectorCalls, blockCalls};
-ghost use Rattle.layout.specs.Lengths.{sectorCount, blockSize, streamSize};
-ghost use Rattle.formatter.specs.Formatter.{formatRefusal, formattedBuffer};
-ghost use Rattle.formatter.specs.Inner.{sectorRoom, closingRoom};
+ghost use Rattle.eccblock.specs.Encode.{encodeNumber, encodedBuffer};
+ghost use Rattle.writer.specs.Session.{sectorCalls};
+ghost use Rattle.layout.specs.Lengths.{sectorCount, blockSize, sectorsStream};
+ghost use Rattle.formatter.specs.Formatter.{formattedNumber, writeBlockRefusal, writeBlockNext, writeBlockOut, formatRefusal, formattedBuffer};
+ghost use Rattle.formatter.specs.Inner.{sectorRoom, recordNumber, madeRefusal};
 use eccblock::Encoded;
+use eccblock::Previous;
 pub use hexadecimal::hex_number;
 use layout::BLOCK_SIZE;
 use layout::SECTOR_COUNT;
@@ -18,6 +18,7 @@ use layout::SECTOR_SIZE;
 use layout::SECTOR_STREAM;
 use layout::SECTORS_STREAM;
 use layout::STREAM_SIZE;
+use writer::Answer;
 use writer::Record;
 
 // A number that was given, or what is none.
@@ -26,6 +27,67 @@ pub enum Parsed {
     Malformed,
 }
 
+// What the formatter answers. The documents' number of each is `formattedNumber`.
+pub enum Formatted {
+    Done,
+    LengthRefused,
+    NumberRefused,
+    InformationRefused,
+    SequenceRefused,
+    BadRecord,
+    RunEnded,
+}
+
+// The record after a block, and the answer.
+pub struct BlockStep {
+    pub next: Record,
+    pub answer: Formatted,
+}
+
+// ---- the answers
+
+// The documents' number of an answer, 0 where nothing is refused.
+pub fn formatted_number(answer: Formatted) -> u32
+    ensures { λ r. ⌜ r ≡ formattedNumber answer ⌝ }
+{
+    match answer {
+        Formatted::Done => 0,
+        Formatted::LengthRefused => 1,
+        Formatted::NumberRefused => 2,
+        Formatted::InformationRefused => 3,
+        Formatted::SequenceRefused => 10,
+        Formatted::BadRecord => 9,
+        Formatted::RunEnded => 7,
+    }
+}
+
+fn of_maker(answer: Encoded) -> Formatted
+    ensures { λ r. ⌜ formattedNumber r ≡ encodeNumber answer ⌝ }
+{
+    match answer {
+        Encoded::Block => Formatted::Done,
+        Encoded::LengthRefused => Formatted::LengthRefused,
+        Encoded::NumberRefused => Formatted::NumberRefused,
+        Encoded::InformationRefused => Formatted::InformationRefused,
+        Encoded::SequenceRefused => Formatted::SequenceRefused,
+    }
+}
+
+// The writer's answer on the record alone: 0, 7 or 9.
+fn of_record(answer: Answer) -> Formatted
+    ensures { λ r. ⌜ formattedNumber r ≡ recordNumber answer ⌝ }
+{
+    match answer {
+        Answer::Done => Formatted::Done,
+        Answer::LengthRefused => Formatted::BadRecord,
+        Answer::RunEnded => Formatted::RunEnded,
+        Answer::RunUnfinished => Formatted::BadRecord,
+        Answer::BadRecord => Formatted::BadRecord,
+    }
+}
+
+// ---- a block of a run
+
 // A buffer for the block.
 fn block_room() -> [u8; BLOCK_SIZE]
     ensures { λ r. ⌜ blockSize ≡ length r ⌝ }
@@ -33,16 +95,35 @@ fn block_room() -> [u8; BLOCK_SIZE]
     [0; BLOCK_SIZE]
 }
 
-// The sixteen sectors, one after the other into the stream, each with the record that the one before it handed back.
-fn write_sectors(block: &[u8], out: &mut [u8]) -> Record
+// The block, and what the block maker or the writer's record refuses.
+fn make(
+    current: Record,
+    previous: Previous,
+    main: &[u8],
+    first: u32,
+    info: u8,
+    block: &mut [u8],
+) -> Formatted
     requires { ⌜ length (now block) ≡ blockSize ⌝ }
-    requires { ⌜ length (now out) ≡ streamSize ⌝ }
-    ensures { λ r. ⌜ r ≡ sectorCalls start (now (block .entry)) (sectorRoom (now (out .entry))) sectorCount .next ⌝ }
-    ensures { λ r. ⌜ now (out .exit)
-        ≡ sectorCalls start (now (block .entry)) (sectorRoom (now (out .entry))) sectorCount .bytes ++ closingRoom
-        (now (out .entry)) ⌝ }
+    ensures { λ r. ⌜ formattedNumber r ≡ madeRefusal current previous (length (now (main .entry))) first info ⌝ }
+    ensures { λ r. ⌜ now (block .exit) ≡ encodedBuffer previous (now (main .entry)) first info (now (block .entry)) ⌝ }
 {
-    let mut w = writer::new();
+    let made = eccblock::encode_block(main, previous, first, info, block);
+    if eccblock::encode_number(made) != 0 {
+        return of_maker(made);
+    }
+    of_record(writer::block_refusal(current))
+}
+
+// The sixteen sectors, one after the other into the stream, each with the record that the one before it handed back.
+fn write_sectors(current: Record, block: &[u8], out: &mut [u8]) -> Record
+    requires { ⌜ length (now block) ≡ blockSize ⌝ }
+    requires { ⌜ length (now out) ≡ sectorsStream ⌝ }
+    ensures { λ r. ⌜ r ≡ sectorCalls current (now (block .entry)) (sectorRoom (now (out .entry))) sectorCount .next ⌝ }
+    ensures { λ r. ⌜ now (out .exit)
+        ≡ sectorCalls current (now (block .entry)) (sectorRoom (now (out .entry))) sectorCount .bytes ⌝ }
+{
+    let mut w = current;
     let mut k: usize = 0;
     while k < SECTOR_COUNT {
         let from = SECTOR_SIZE * k;
@@ -56,32 +137,63 @@ fn write_sectors(block: &[u8], out: &mut [u8]) -> Record
     w
 }
 
-// The sixteen sectors and the closing code.
-fn write_block(block: &[u8], out: &mut [u8])
-    requires { ⌜ length (now block) ≡ blockSize ⌝ }
-    requires { ⌜ length (now out) ≡ streamSize ⌝ }
+// A whole block of a run: 32,768 main data bytes to sixteen sectors of stream, 77,376 bytes. Where a number applies, record and buffer are left as they were.
+pub fn write_block(
+    current: Record,
+    previous: Previous,
+    main: &[u8],
+    first: u32,
+    info: u8,
+    out: &mut [u8],
+) -> BlockStep
+    ensures { λ r. ⌜ formattedNumber (r .answer)
+        ≡ writeBlockRefusal current previous (length (now (main .entry))) (length (now (out .entry))) first info ⌝ }
+    ensures { λ r. ⌜ r .next
+        ≡ writeBlockNext current previous (now (main .entry)) first info (length (now (out .entry))) ⌝ }
     ensures { λ r. ⌜ now (out .exit)
-        ≡ blockCalls (now (block .entry)) (sectorRoom (now (out .entry)))
-        (closingRoom (now (out .entry))) .bytes ⌝ }
+        ≡ writeBlockOut current previous (now (main .entry)) first info (now (out .entry)) ⌝ }
 {
-    let w = write_sectors(block, out);
-    writer::close(w, &mut out[SECTORS_STREAM..STREAM_SIZE]);
+    if out.len() != SECTORS_STREAM {
+        return BlockStep {
+            next: current,
+            answer: Formatted::LengthRefused,
+        };
+    }
+    let mut block = block_room();
+    let answer = make(current, previous, main, first, info, &mut block);
+    if formatted_number(answer) != 0 {
+        return BlockStep {
+            next: current,
+            answer,
+        };
+    }
+    let next = write_sectors(current, &block, out);
+    BlockStep { next, answer }
 }
 
+// ---- the run of one block
+
 // 32,768 main data bytes to a stream of 77,380. Where a number applies, the buffer is left as it was.
-pub fn format_block(main: &[u8], first: u32, info: u8, out: &mut [u8]) -> Encoded
-    ensures { λ r. ⌜ encodeNumber r
+pub fn format_block(main: &[u8], first: u32, info: u8, out: &mut [u8]) -> Formatted
+    ensures { λ r. ⌜ formattedNumber r
         ≡ formatRefusal (length (now (main .entry))) (length (now (out .entry))) first info ⌝ }
     ensures { λ r. ⌜ now (out .exit) ≡ formattedBuffer (now (main .entry)) first info (now (out .entry)) ⌝ }
 {
     if out.len() != STREAM_SIZE {
-        return Encoded::LengthRefused;
+        return Formatted::LengthRefused;
     }
-    let mut block = block_room();
-    let answer = eccblock::encode_block(main, first, info, &mut block);
-    if eccblock::encode_number(answer) != 0 {
+    let step = write_block(
+        writer::new(),
+        Previous::None,
+        main,
+        first,
+        info,
+        &mut out[0..SECTORS_STREAM],
+    );
+    let answer = step.answer;
+    if formatted_number(answer) != 0 {
         return answer;
     }
-    write_block(&block, out);
+    writer::close(step.next, &mut out[SECTORS_STREAM..STREAM_SIZE]);
     answer
 }

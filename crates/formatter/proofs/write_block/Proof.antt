@@ -1,50 +1,64 @@
--- `write_block` meets its contract. Assumes nothing.
-use mathlib.Core.Path.{refl, _∙_}
-use lib.ListN.{take, drop}
-use Rattle.layout.specs.Lengths.{sectorsStream, closingSize}
-use Rattle.formatter.proofs.Sectors.{closed-up}
 use borrow.Author.Needs.{needs}
 use Rattle.formatter.proofs.write_block.Statement.{statement}
 use Rattle.formatter.proofs.write_block.Tie as tie
+use Rattle.formatter.proofs.write_block.Reads as reads
+use Rattle.formatter.proofs.write_block.Lts as lts
+use Rattle.formatter.proofs.block_room.Reads as block-room-reads
+use Rattle.formatter.proofs.formatted_number.Reads as formatted-number-reads
+use Rattle.formatter.proofs.make.Reads as make-reads
+use Rattle.formatter.proofs.write_sectors.Reads as write-sectors-reads
 
+-- src/lib.rt:157:9
+returns : tie.Need-returns
+returns c = ?
+
+-- src/lib.rt:162:21
+block-room-requires : tie.Need-block-room-requires
+block-room-requires c κs = search needs
+
+-- src/lib.rt:163:61
+slice-aggregate-make : tie.Need-slice-aggregate-make
+slice-aggregate-make c = search needs
+
+-- src/lib.rt:163:9
+make-requires : tie.Need-make-requires
+make-requires c κs = search needs
+
+-- src/lib.rt:164:8
+formatted-number-requires : tie.Need-formatted-number-requires
+formatted-number-requires c κs = search needs
+
+-- src/lib.rt:165:9
+returns-2 : tie.Need-returns-2
+returns-2 c = ?
+
+-- src/lib.rt:170:39
+slice-aggregate-write-sectors : tie.Need-slice-aggregate-write-sectors
+slice-aggregate-write-sectors c = search needs
+
+-- src/lib.rt:170:9
 write-sectors-requires : tie.Need-write-sectors-requires
 write-sectors-requires c κs = search needs
 
-sub-close : tie.Need-sub-close
-sub-close c = search needs
-
-part-close-start : tie.Need-part-close-start
-part-close-start c = search needs
-
-part-close-end : tie.Need-part-close-end
-part-close-end c = search needs
-
-close-requires : tie.Need-close-requires
-close-requires c κs = search needs
-
+-- src/lib.rt:141:1
 same-length : tie.Need-same-length
 same-length c = search needs
 
-returns : tie.Need-returns
-returns c =
-    let closed = c .before .before in
-    let written = closed .before .before .before .before in
-    let start = written .before .before .before .before in
-    let a = start .args in
-    let q = written .write-sectors in
-    let z = closed .close in
-    let stream = q .last .1 .0 in
-    closed-up (a .block .now) (a .out .now) stream (z .last .1 .0) (take closingSize (drop sectorsStream stream)) (q .result) closingSize (start .pre .1)
-    (q .kept .1 .0 ∙ start .pre .1) (q .ensures .0) (q .ensures .1) refl refl (z .ensures .1 .1)
+-- src/lib.rt:141:1
+returns-3 : tie.Need-returns-3
+returns-3 c = ?
 
 pub write-block-spec : {M : Type 1} → statement M
 write-block-spec =
     tie.close
     (tie.spec
+    returns
+    block-room-requires
+    slice-aggregate-make
+    make-requires
+    formatted-number-requires
+    returns-2
+    slice-aggregate-write-sectors
     write-sectors-requires
-    sub-close
-    part-close-start
-    part-close-end
-    close-requires
     same-length
-    returns)
+    returns-3)

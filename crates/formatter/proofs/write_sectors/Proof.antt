@@ -3,24 +3,21 @@ use mathlib.Core.Path.{_≡_, refl, sym, ap, _∙_}
 use mathlib.Core.List.{List}
 use Prim.Native.Nat.{ℕ, _+_, _-_, _*_, _≤_}
 use lib.ListN.{length, take, drop}
-use Rattle.layout.specs.Lengths.{sectorCount, sectorSize, sectorStream, streamSize}
-use Rattle.formatter.proofs.Sectors.{Written, written-none, written-more, written-length}
+use Rattle.layout.specs.Lengths.{sectorCount, sectorSize, sectorStream, sectorsStream}
+use Rattle.formatter.proofs.Sectors.{Written, written-none, written-more, written-length, written-all}
 use native.Mathlib.Omega.{arith}
 use borrow.Author.Needs.{needs}
 use Rattle.formatter.proofs.write_sectors.Statement.{statement}
 use Rattle.formatter.proofs.write_sectors.Tie as tie
 
 abbrev Inv-loop : tie.InvT-loop
-Inv-loop block out₀ w₀ k₀ out w k = (k ≤ sectorCount) × Written block out₀ k w out × (length out ≡ streamSize)
+Inv-loop block out₀ w₀ k₀ out w k = (k ≤ sectorCount) × Written w₀ block out₀ k w out × (length out ≡ sectorsStream)
 
 abbrev μ-loop : tie.MeasureT-loop
 μ-loop block out₀ w₀ k₀ out w k = sectorCount - k
 
-new-requires : tie.Need-new-requires Inv-loop μ-loop
-new-requires c κs = search needs
-
 loop-holds : tie.Need-loop-holds Inv-loop μ-loop
-loop-holds c = (omega arith, written-none _ _ _ (c .new .ensures), c .before .before .before .pre .1)
+loop-holds c = (omega arith, written-none _ _ _, c .before .before .before .pre .1)
 
 mul-from : tie.Need-mul-from Inv-loop μ-loop
 mul-from c = omega arith
@@ -77,9 +74,9 @@ loop-again c =
     let m : from + sectorSize - from ≡ sectorSize = omega arith in
     let eb : b ≡ take sectorSize (drop from bs) = ap (λ (x : ℕ). take x (drop from bs)) m in
     let more =
-    written-more bs old (l .k) (l .w) (l .out) (omega arith) (start .pre .1) (l .inv .1) (q .last .1 .1 .0) b o (q .result .next)
+    written-more (start .args .current) bs old (l .k) (l .w) (l .out) (omega arith) (start .pre .1) (l .inv .1) (q .last .1 .1 .0) b o (q .result .next)
     (at + sectorStream - at) (omega arith) (omega arith) eb refl (q .ensures .1 .0) (q .ensures .1 .1) (q .kept .1 .1 .0) in
-    (omega arith, more, written-length bs old (l .k + 1) _ _ (omega arith) (start .pre .1) more)
+    (omega arith, more, written-length (start .args .current) bs old (l .k + 1) _ _ (omega arith) (start .pre .1) more)
 
 same-length : tie.Need-same-length Inv-loop μ-loop
 same-length c =
@@ -92,8 +89,8 @@ returns c =
     let a = turn .before .before .before .before .args in
     let l = turn .loop in
     let e : l .k ≡ sectorCount = omega arith in
-    let g : Written (a .block .now) (a .out .now) sectorCount (l .w) (l .out) = rw e at (l .inv .1) in
-    (g .next, g .bytes)
+    let g : Written (a .current) (a .block .now) (a .out .now) sectorCount (l .w) (l .out) = rw e at (l .inv .1) in
+    (g .next, written-all (a .current) (a .block .now) (a .out .now) (l .w) (l .out) ? g)
 
 pub write-sectors-spec : {M : Type 1} → statement M
 write-sectors-spec =
@@ -101,7 +98,6 @@ write-sectors-spec =
     (tie.spec
     Inv-loop
     μ-loop
-    new-requires
     loop-holds
     mul-from
     add-till
