@@ -23,7 +23,7 @@ accepted-any {previous} {main} {first} {info} ok =
       taken = sym (by-judgement None (length main) blockSize first info (f .whole) refl (f .sixteen) (f .small)) ∙ rw (f .permitted);
     }
 
--- the numbers below and of the block with first number p, and those of the blocks after it
+-- the numbers up to the end of the block with first number p, and those of the blocks after it, are sector numbers
 after-fits : (p : ℕ) (is : List BlockInput) → p ≤ lastFirst → AcceptedRun (First p) is → p + 16 + 16 * length is ≤ runSectors
 unfolding AcceptedRun
 after-fits p [] h ok = omega arith

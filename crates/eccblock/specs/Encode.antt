@@ -15,8 +15,8 @@ use Rattle.eccblock.specs.declared.Previous.the-variants.{None, First}
 use Rattle.eccblock.specs.declared.Encoded.{Encoded}
 use Rattle.eccblock.specs.declared.Encoded.the-variants.{Block, LengthRefused, NumberRefused, InformationRefused, SequenceRefused}
 
--- whether a first number follows on the block before (document 02, request 1): any number where there is none, else that block's first number plus 16, a sum in ℕ,
--- so that 0 follows on nothing
+-- whether a first number follows on the block before (document 02, request 1): any does where there is none, else that block's first number plus 16. The sum is in ℕ,
+-- so that 0 follows on no block
 abbrev pub follows : Previous → ℕ → Bool
 follows None first = true
 follows (First p) first = eqb first (p + 16)

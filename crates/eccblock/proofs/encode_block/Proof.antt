@@ -1,8 +1,6 @@
 -- `eccblock::encode_block` meets its contract, case by case. Assumes nothing.
-use mathlib.Core.Path.{_≡_, _∙_}
+use mathlib.Core.Path.{_∙_}
 use native.Mathlib.Omega.{arith}
-use lib.ListN.{length}
-use Rattle.eccblock.specs.Encode.{encodeRefusal, encodeNumber}
 use Rattle.eccblock.proofs.Refusals.{main-length, buffer-length, not-sixteen, number-over, by-judgement, refused-and-left, taken-and-made}
 use borrow.Author.Needs.{needs}
 use Rattle.eccblock.proofs.encode_block.Statement.{statement}
