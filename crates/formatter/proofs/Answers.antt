@@ -1,28 +1,33 @@
 -- What specs/Formatter says in each case.
 -- Assumes nothing.
 use mathlib.Core.Bool.{Bool, true, false, cond}
-use mathlib.Core.List.{List, [], _∷_, _++_}
-use mathlib.Core.Path.{_≡_, refl, sym, ap, _∙_}
-use Prim.Native.Nat.{ℕ, _*_, _<_}
+use mathlib.Core.List.{List, [], _∷_, _++_, append-nil}
+use mathlib.Core.Path.{_≡_, refl, sym, ap, ap₂, _∙_}
+use Prim.Native.Nat.{ℕ, zero, suc, _*_, _<_}
 use native.Mathlib.Omega.{arith}
 use borrow.Author.Tests.{eq-eqb, ne-eqb, eqb-true}
 use lib.Dec.{eqb}
-use lib.ListN.{length, drop, length-drop}
-use lib.Seq.{length-take-le}
+use lib.ListN.{length, take, drop, length-append, length-drop, take-append-drop}
+use lib.Seq.{length-take-le, take-all, take-at, drop-at, drop-length}
 use Rattle.bytes.specs.Halves.{packed}
-use Rattle.layout.specs.Lengths.{sectorCount, blockSize, sectorStream, sectorsStream, streamSize}
+use Rattle.bytes.proofs.Halves.{packed-append}
+use Rattle.layout.specs.Lengths.{sectorCount, blockSize, sectorStream, sectorsStream, closingSize, streamSize}
 use Rattle.lists.specs.Bytes.{Bytes}
 use Rattle.eccblock.specs.Block.{block}
-use Rattle.eccblock.specs.Encode.{encodeRefusal, encodedBuffer}
+use Rattle.eccblock.specs.Encode.{encodeRefusal, encodedBuffer, Accepted}
+use Rattle.eccblock.proofs.Laws.{block-length, block-bytes}
 use Rattle.eccblock.specs.declared.Previous.{Previous}
 use Rattle.eccblock.specs.declared.Previous.the-variants.{None}
-use Rattle.streams.specs.Frames.{sectorsOf}
-use Rattle.writer.specs.Answers.{answerNumber, sound, ended, blockRefusal}
+use Rattle.levels.specs.declared.Running.{Running}
+use Rattle.streams.specs.Frames.{sectorsOf, closingOf, runOf}
+use Rattle.streams.specs.Streams.{Stream}
+use Rattle.writer.specs.Answers.{answerNumber, sound, ended, blockRefusal, closingOut}
+use Rattle.writer.specs.Session.{runCalls}
 use Rattle.writer.specs.Records.{start, runningOf, afterBlock}
 use Rattle.writer.specs.declared.Answer.{Answer}
 use Rattle.writer.specs.declared.Answer.the-variants.{Done, LengthRefused, RunEnded, RunUnfinished, BadRecord}
 use Rattle.writer.specs.declared.Record.{Record}
-use Rattle.writer.proofs.Calls.{BlockWritten, block-written}
+use Rattle.writer.proofs.Calls.{BlockWritten, block-written, running-record, begins-start, begins-open, begins-more, closing-going}
 use Rattle.writer.proofs.Sound.{Open}
 use Rattle.formatter.specs.Formatter.{writeBlockRefusal, writeBlockNext, writeBlockOut, blockStream, formatRefusal, formattedBuffer}
 use Rattle.formatter.specs.Inner.{sectorRoom, recordNumber, madeRefusal}
@@ -108,8 +113,104 @@ sectors-written w bs old o l b h =
 
 -- ---- the run of one block
 
+start-taken : blockRefusal start ≡ 0
+unfolding blockRefusal sound
+start-taken = refl
+
+itself : (e : ℕ) → cond (eqb e 0) 0 e ≡ e
+itself zero = refl
+itself (suc e) = rw (ne-eqb (suc e) 0 (λ z. omega (arith, z)))
+
 module _ (main : List ℕ) (first info : ℕ) (old : List ℕ) where
   pub format-length-refused :
       (length old ≡ streamSize → ⊥) → (1 ≡ formatRefusal (length main) (length old) first info) × (old ≡ formattedBuffer main first info old)
   unfolding formatRefusal formattedBuffer
   format-length-refused h = (rw (ne-eqb (length old) streamSize h), rw (ne-eqb (length old) streamSize h))
+
+  module _ (l : length old ≡ streamSize) (w : Record) (new-record : w ≡ start) where
+    -- the part that is lent for the sectors
+    abbrev part : List ℕ
+    part = take sectorsStream old
+
+    part-length : length part ≡ sectorsStream
+    part-length = length-take-le sectorsStream old (omega arith)
+
+    -- from a new record and with no block before, what is refused is what the block maker refuses
+    pub one-number : (x : ℕ) → x ≡ writeBlockRefusal w None (length main) (length part) first info → x ≡ formatRefusal (length main) (length old) first info
+    unfolding writeBlockRefusal formatRefusal
+    one-number x e =
+        e
+        ∙ ap (λ (v : Record). writeBlockRefusal v None (length main) (length part) first info) new-record
+        ∙ rw (eq-eqb (length part) sectorsStream part-length, eq-eqb (length old) streamSize l, start-taken) (itself (encodeRefusal None (length main) blockSize first info))
+
+    -- where nothing is refused the block maker takes the block
+    pub one-taken : writeBlockRefusal w None (length main) (length part) first info ≡ 0 → encodeRefusal None (length main) blockSize first info ≡ 0
+    unfolding formatRefusal
+    one-taken e = sym (rw (eq-eqb (length old) streamSize l)) ∙ sym (one-number 0 (sym e))
+
+    -- the stream keeps its length over the sectors
+    pub one-length : (new : List ℕ) → length new ≡ length part → length (new ++ drop sectorsStream old) ≡ streamSize
+    one-length new kept = length-append new (drop sectorsStream old) ∙ omega (arith, kept, part-length, length-drop sectorsStream old)
+
+    pub one-left :
+        (x : ℕ) (new : List ℕ) → (x ≡ 0 → ⊥) → x ≡ writeBlockRefusal w None (length main) (length part) first info
+        → new ≡ writeBlockOut w None main first info part → new ++ drop sectorsStream old ≡ formattedBuffer main first info old
+    unfolding formattedBuffer
+    one-left x new h e o =
+        ap (λ (xs : List ℕ). xs ++ drop sectorsStream old) (o ∙ sym (all-left w None main first info part x h e .1))
+        ∙ take-append-drop sectorsStream old
+        ∙ rw (ne-eqb (formatRefusal (length main) (length old) first info) 0 (λ z. h (one-number x e ∙ z)))
+
+    module _ (new : List ℕ) (next : Record) (taken : writeBlockRefusal w None (length main) (length part) first info ≡ 0) (ok : Accepted None main first info)
+        (o : new ≡ writeBlockOut w None main first info part) (n : next ≡ writeBlockNext w None main first info (length part)) (same : length new ≡ length part) where
+      abbrev made : List ℕ
+      made = block main first info
+
+      kept : length new ≡ sectorsStream
+      kept = same ∙ part-length
+
+      -- the stream after the sectors
+      abbrev stream : List ℕ
+      stream = new ++ drop sectorsStream old
+
+      abbrev sectors : Stream
+      sectors = sectorsOf (runningOf start) made sectorCount
+
+      wrote : BlockWritten start made (sectorRoom part)
+      wrote =
+          sectors-written start made part (begins-open (begins-start 1 (omega arith) (omega arith))) (block-length main first info ok) (block-bytes main first info ok) part-length
+
+      next-is : next ≡ afterBlock start made
+      next-is = n ∙ sym (block-next w None main first info part taken) ∙ ap (λ (v : Record). afterBlock v made) new-record
+
+      new-is : new ≡ packed (sectors .halves)
+      new-is = o ∙ sym (block-out w None main first info part taken) ∙ ap (λ (v : Record). packed (sectorsOf (runningOf v) made sectorCount .halves)) new-record
+
+      rest-is : drop sectorsStream stream ≡ drop sectorsStream old
+      rest-is = drop-at new (drop sectorsStream old) sectorsStream kept
+
+      rest-length : length (drop sectorsStream old) ≡ closingSize
+      rest-length = length-drop sectorsStream old ∙ omega arith
+
+      end-part : take closingSize (drop sectorsStream stream) ≡ drop sectorsStream old
+      end-part = ap (take closingSize) rest-is ∙ take-all closingSize (drop sectorsStream old) (omega (arith, rest-length))
+
+      closing-is : closingOut next (take closingSize (drop sectorsStream stream)) ≡ packed (closingOf (sectors .running) .halves)
+      unfolding runCalls runOf
+      closing-is =
+          let rest = drop sectorsStream old in
+          ap₂ closingOut next-is end-part
+          ∙ closing-going (afterBlock start made) (λ j k. []) rest (begins-more (begins-start 1 (omega arith) (omega arith)) wrote) rest-length .stream
+          ∙ ap (λ (r : Running). packed (closingOf r .halves)) (running-record (sectors .running) sectorCount false)
+
+      pub one-closed :
+          (end : List ℕ) → end ≡ closingOut next (take closingSize (drop sectorsStream stream))
+          → take sectorsStream stream ++ (end ++ drop closingSize (drop sectorsStream stream)) ≡ formattedBuffer main first info old
+      unfolding formattedBuffer blockStream runOf
+      one-closed end e =
+          let nothing : drop closingSize (drop sectorsStream stream) ≡ [] =
+          ap₂ drop (sym rest-length) rest-is ∙ drop-length (drop sectorsStream old) in
+          ap₂ (λ (x y : List ℕ). x ++ (end ++ y)) (take-at new (drop sectorsStream old) sectorsStream kept ∙ new-is) nothing
+          ∙ ap (λ (x : List ℕ). packed (sectors .halves) ++ x) (append-nil end ∙ e ∙ closing-is)
+          ∙ sym (packed-append (sectors .halves) (closingOf (sectors .running) .halves))
+          ∙ rw (eq-eqb (formatRefusal (length main) (length old) first info) 0 (sym (one-number 0 (sym taken))))

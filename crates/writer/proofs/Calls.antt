@@ -137,7 +137,7 @@ record Going (w : Record) (bs : List ℕ) (n : ℕ) (s : Session) : Type 0 where
   laid : s .bytes ≡ packed (sectorsOf (runningOf w) bs n .halves)
 
 -- one record from another and back
-running-record : (r : Running) (n : ℕ) (c : Bool) → runningOf (recordOf r n c) ≡ r
+pub running-record : (r : Running) (n : ℕ) (c : Bool) → runningOf (recordOf r n c) ≡ r
 running-record r n c = ap (λ (d : ℕ). record { state = r .state; level = r .level; dsv = d }) (offset-signed (r .dsv))
 
 record-running : (w : Record) (n : ℕ) → Sound w → n ≡ w .sectors → w ≡ recordOf (runningOf w) n (w .closed)
@@ -240,24 +240,35 @@ module _ (w : Record) (bs : List ℕ) (outs : ℕ → List ℕ) (o : Open w sect
 -- ---- a run
 
 -- the calls over a run and for closing from the record w: none is refused, and what they leave is what the rule over the run says, the record closed
-record RunGoing (w : Record) (run : List (List ℕ)) (outs : ℕ → ℕ → List ℕ) (end : List ℕ) : Type 0 where
-  refusals : NoneRefused w run outs end
-  stream : runCalls w run outs end .bytes ≡ packed (runOf (runningOf w) run .halves)
-  next : runCalls w run outs end .next ≡ recordOf (runOf (runningOf w) run .running) (w .sectors + sectorCount * length run) true
+pub record RunGoing (w : Record) (run : List (List ℕ)) (outs : ℕ → ℕ → List ℕ) (end : List ℕ) : Type 0 where
+  pub refusals : NoneRefused w run outs end
+  pub stream : runCalls w run outs end .bytes ≡ packed (runOf (runningOf w) run .halves)
+  pub next : runCalls w run outs end .next ≡ recordOf (runOf (runningOf w) run .running) (w .sectors + sectorCount * length run) true
 
 -- the record is sound and open, at whole blocks; there is room for n blocks more, and one was written or will be
-record Begins (w : Record) (n : ℕ) : Type 0 where
-  is : Sound w
-  open-yet : w .closed ≡ false
-  whole : w .sectors % sectorCount ≡ 0
-  more : w .sectors + sectorCount * n ≤ runSectors
-  some : 1 ≤ w .sectors + n
+pub record Begins (w : Record) (n : ℕ) : Type 0 where
+  pub is : Sound w
+  pub open-yet : w .closed ≡ false
+  pub whole : w .sectors % sectorCount ≡ 0
+  pub more : w .sectors + sectorCount * n ≤ runSectors
+  pub some : 1 ≤ w .sectors + n
+
+pub begins-start : (n : ℕ) → 0 < n → sectorCount * n ≤ runSectors → Begins start n
+begins-start n some more = record { is = start-sound; open-yet = refl; whole = refl; more = omega arith; some = omega arith }
+
+-- the next block has room, and the rest of the run begins after it
+pub begins-open : {w : Record} {n : ℕ} → Begins w (suc n) → Open w sectorCount
+begins-open b = record { is = b .is; open-yet = b .open-yet; more = omega (arith, b .more) }
+
+pub begins-more : {w : Record} {n : ℕ} {bs : List ℕ} {outs : ℕ → List ℕ} → Begins w (suc n) → BlockWritten w bs outs → Begins (afterBlock w bs) n
+begins-more b written =
+    record { is = written .is; open-yet = b .open-yet; whole = omega (arith, b .whole); more = omega (arith, b .more); some = omega arith }
 
 -- the buffers lent for n blocks have the stated length
 abbrev pub RoomFor : (ℕ → ℕ → List ℕ) → ℕ → Type 0
 RoomFor outs n = (j k : ℕ) → j < n → k < sectorCount → length (outs j k) ≡ sectorStream
 
-closing-going : (w : Record) (outs : ℕ → ℕ → List ℕ) (end : List ℕ) → Begins w 0 → length end ≡ closingSize → RunGoing w [] outs end
+pub closing-going : (w : Record) (outs : ℕ → ℕ → List ℕ) (end : List ℕ) → Begins w 0 → length end ≡ closingSize → RunGoing w [] outs end
 unfolding NoneRefused runCalls runOf closingOut closingNext
 closing-going w outs end b l =
     let counted = and-both (leb 1 (w .sectors)) (eqb (w .sectors % sectorCount) 0) (le→leb 1 (w .sectors) (omega (arith, b .some))) (truth-of (eqb (w .sectors % sectorCount) 0) (eq-eqb (w .sectors % sectorCount) 0 (b .whole))) in
@@ -277,12 +288,8 @@ unfolding Blocks NoneRefused runCalls runOf
 run-going [] w outs end b hr ho l = closing-going w outs end b l
 run-going (a ∷ run) w outs end b hr ho l =
     let later : ℕ → ℕ → List ℕ = λ j. outs (suc j) in
-    let written =
-    block-written w a (outs 0) (record { is = b .is; open-yet = b .open-yet; more = omega (arith, b .more) }) (hr .0 .0) (hr .0 .1)
-    (λ k h. ho 0 k (omega arith) h) in
-    let begins : Begins (afterBlock w a) (length run) =
-    record { is = written .is; open-yet = b .open-yet; whole = omega (arith, b .whole); more = omega (arith, b .more); some = omega arith } in
-    let rest = run-going run (afterBlock w a) later end begins (hr .1) (λ j k h m. ho (suc j) k (omega arith) m) l in
+    let written = block-written w a (outs 0) (begins-open b) (hr .0 .0) (hr .0 .1) (λ k h. ho 0 k (omega arith) h) in
+    let rest = run-going run (afterBlock w a) later end (begins-more b written) (hr .1) (λ j k h m. ho (suc j) k (omega arith) m) l in
     let m = sectorsOf (runningOf w) a sectorCount in
     let from : runningOf (afterBlock w a) ≡ m .running = running-record (m .running) (w .sectors + sectorCount) (w .closed) in
     let count : w .sectors + sectorCount + sectorCount * length run ≡ w .sectors + sectorCount * suc (length run) = omega arith in
@@ -311,8 +318,7 @@ pub run-written :
     (run : List (List ℕ)) (outs : ℕ → ℕ → List ℕ) (end : List ℕ) → 0 < length run → sectorCount * length run ≤ runSectors → Blocks run
     → RoomFor outs (length run) → length end ≡ closingSize → RunWritten run outs end
 run-written run outs end some more hr ho l =
-    let begins : Begins start (length run) = record { is = start-sound; open-yet = refl; whole = refl; more = omega arith; some = omega arith } in
-    let g = run-going run start outs end begins hr ho l in
+    let g = run-going run start outs end (begins-start (length run) some more) hr ho l in
     let count : 0 + sectorCount * length run ≡ sectorCount * length run = omega arith in
     record {
       refusals = g .refusals;

@@ -197,5 +197,9 @@ pub(crate) fn closing_refusal(current: Record, to: usize) -> Answer
     if to != CLOSING_SIZE {
         return Answer::LengthRefused;
     }
-    state_refusal(is_sound(current), current.closed, !closes_at(current.sectors))
+    state_refusal(
+        is_sound(current),
+        current.closed,
+        !closes_at(current.sectors),
+    )
 }

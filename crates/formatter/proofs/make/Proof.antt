@@ -55,7 +55,7 @@ returns-2 c =
     let refusal = encoded .encode-block .ensures .0 ∙ ap (λ (n : ℕ). encodeRefusal (a .previous) (length (a .main .now)) n (a .first) (a .info)) (start .pre) in (
       record-refuses (a .current) (a .previous) (length (a .main .now)) (a .first) (a .info) _
           (sym refusal ∙ omega (arith, numbered .encode-number .ensures, tested .if1 .left))
-          (c .of-record .ensures ∙ record-number (a .current) _ (judged .block-refusal .ensures)),
+          (c .of-record .ensures ∙ record-number (a .current) (judged .block-refusal .result) (judged .block-refusal .ensures)),
       encoded .encode-block .ensures .1,
     )
 

@@ -17,7 +17,7 @@ abbrev μ-loop : tie.MeasureT-loop
 μ-loop block out₀ w₀ k₀ out w k = sectorCount - k
 
 loop-holds : tie.Need-loop-holds Inv-loop μ-loop
-loop-holds c = (omega arith, written-none _ _ _, c .before .before .before .pre .1)
+loop-holds c = (omega arith, written-none _ _ _, c .before .before .pre .1)
 
 mul-from : tie.Need-mul-from Inv-loop μ-loop
 mul-from c = omega arith
@@ -62,7 +62,7 @@ loop-again : tie.Need-loop-again Inv-loop μ-loop
 loop-again c =
     let written = c .before .before .before in
     let turn = written .before .before .before .before in
-    let start = turn .before .before .before .before in
+    let start = turn .before .before .before in
     let l = turn .loop in
     let q = written .write-sector in
     let bs = start .args .block .now in
@@ -81,16 +81,17 @@ loop-again c =
 same-length : tie.Need-same-length Inv-loop μ-loop
 same-length c =
     let turn = c .before in
-    turn .loop .inv .2 ∙ sym (turn .before .before .before .before .pre .1)
+    turn .loop .inv .2 ∙ sym (turn .before .before .before .pre .1)
 
 returns : tie.Need-returns Inv-loop μ-loop
 returns c =
     let turn = c .before in
-    let a = turn .before .before .before .before .args in
+    let start = turn .before .before .before in
+    let a = start .args in
     let l = turn .loop in
     let e : l .k ≡ sectorCount = omega arith in
     let g : Written (a .current) (a .block .now) (a .out .now) sectorCount (l .w) (l .out) = rw e at (l .inv .1) in
-    (g .next, written-all (a .current) (a .block .now) (a .out .now) (l .w) (l .out) ? g)
+    (g .next, written-all (a .current) (a .block .now) (a .out .now) (l .w) (l .out) (start .pre .1) g)
 
 pub write-sectors-spec : {M : Type 1} → statement M
 write-sectors-spec =
