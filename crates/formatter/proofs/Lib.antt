@@ -1,4 +1,5 @@
 pub mod Digits
 pub mod Sectors
 pub mod Answers
+pub mod Runs
 pub mod Examples

@@ -20,6 +20,7 @@ use Rattle.dataframe.specs.Checks.{infoOf, numberOf, frameRefusal, mainOfBlock}
 use Rattle.eccblock.specs.Block.{frame, codeColumn, codeRow, block}
 use Rattle.layout.specs.Rows.{recordingRow, originalRow, rowOf, columnOf, frameOf}
 use Rattle.eccblock.specs.Encode.{Accepted}
+use Rattle.eccblock.specs.declared.Previous.{Previous}
 use Rattle.layout.proofs.Order.{recording-lt, recording-original, count-recording}
 use Rattle.layout.proofs.Places.{column-length, column-byte, frame-length, frame-byte}
 use Rattle.eccblock.proofs.Cells.{code-column-length, code-row-length}
@@ -39,7 +40,7 @@ all-pass ys a (suc n) k h =
     ap (λ (t : Bool). cond t (judged ys (suc k) n a) (FrameRefused (frameFault ys k) k)) (eq-eqb (frameFault ys k) 0 (h k (omega arith)))
     ∙ all-pass ys a n (suc k) (λ i l. h i (omega arith))
 
-module _ (main : List ℕ) (first info : ℕ) (ok : Accepted main first info) (xs : List ℕ) (whole : length xs ≡ blockSize) (hx : Bytes xs) where
+module _ {previous : Previous} (main : List ℕ) (first info : ℕ) (ok : Accepted previous main first info) (xs : List ℕ) (whole : length xs ≡ blockSize) (hx : Bytes xs) where
   abbrev made : List ℕ
   made = block main first info
 

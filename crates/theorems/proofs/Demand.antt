@@ -1,12 +1,19 @@
--- DEMAND 3 (the mission; document 01, 'Reading a word, and the repair'), one theorem from the maker's input to the repairer's answer.
---   zero-runs  Before any change every permitted stream, whatever bytes it carries, has 2 to 10 ZEROs between ONEs, apart from the 13 in each SYNC Code.
---   back       For every block that the maker accepts, every list of permitted choices, whoever makes them, and every stream that is read in place of theirs: while at
---              most 8 of the 208 rows hold more than 5 touched bytes, the reader refuses nothing and hands out exactly the main data and the first number.
+-- DEMAND 3 (the mission; document 01, 'Reading a word, and the repair'; document 02, request 1), one theorem from the maker's input to the repairer's answer, over a
+-- run of blocks.
+--   zero-runs  Before any change every permitted stream of a run, whatever bytes its blocks carry, has 2 to 10 ZEROs between ONEs, apart from the 13 in each SYNC
+--              Code, seams included.
+--   back       For every run of blocks that the maker accepts, each but the first with the number of the one before it, every list of permitted choices over all
+--              of it, whoever makes them, every stream of its length that is read in its place, and each block of it: while at most 8 of that block's 208 rows hold
+--              more than 5 touched bytes, the reader of its 77,380 bytes refuses nothing and hands out exactly its main data and its first number. What happened to
+--              the other blocks does not matter, but for the SYNC Code after the block, which is in those bytes.
+-- The theorem of one block (demand3-block) is its corollary.
 -- 'The reader of demand 3 is sixteen calls of the sector reader and then one of the repairer.' The whole-block reader, which is one call, stands beside it.
 --
 -- The definitions it is stated over, and the functions whose contracts cite them:
---   Accepted, block                          eccblock/specs/Encode, Block    eccblock::encode_block
---   permittedChoices, permittedStream        channel/specs/Block             the writer's are among them: block-written (writer/proofs/Calls)
+--   Accepted, block; AcceptedRun, runBlocks  eccblock/specs/Encode, Block;   eccblock::encode_block
+--                                            Run
+--   permittedRun, runStream                  channel/specs/Block             the writer's are among them: run-written (writer/proofs/Calls)
+--   blockPart, runSize                       layout/specs/Sectors            block k of a run's stream, and how long the stream is
 --   heavyRows (touched, changed)             channel/specs/Block             the damage, which no function knows
 --   bitsBytes, blockZeroRunFits              channel/specs/Bits              the zero runs, which no call of this theorem tests
 --   Lent, callAnswer, blockBuffer            reader/specs/Session            sixteen calls, by the two lines below
@@ -17,23 +24,32 @@
 --   sectorSum (readBlock, unknownTally,
 --   syncTally)
 -- Assumes nothing.
-use mathlib.Core.Path.{_≡_}
+use mathlib.Core.Path.{_≡_, subst}
 use mathlib.Core.Bool.{Bool}
-use mathlib.Core.List.{List, _∷_, _++_}
-use Prim.Native.Nat.{ℕ, _<_, _≤_}
+use mathlib.Core.List.{List, [], _∷_, _++_}
+use Prim.Native.Nat.{ℕ, _*_, _<_, _≤_}
 use native.Mathlib.Omega.{arith}
 use borrow.Author.Tests.{eq-eqb}
 use lib.Dec.{T}
-use lib.ListN.{length, replicate}
+use lib.ListN.{length, drop, replicate, length-append, length-drop}
+use lib.Seq.{length-take-le, take-all}
 use Rattle.lists.specs.Bytes.{Bytes}
-use Rattle.layout.specs.Lengths.{mainSize, blockSize, streamSize, sectorCount}
+use Rattle.lists.proofs.Bytes.{take-bytes, drop-bytes}
+use Rattle.layout.specs.Lengths.{mainSize, blockSize, sectorsStream, streamSize, sectorCount}
+use Rattle.layout.specs.Sectors.{blockPart, runSize}
 use Rattle.eccblock.specs.Block.{block}
 use Rattle.eccblock.specs.Encode.{Accepted}
+use Rattle.eccblock.specs.Run.{BlockInput, AcceptedRun, runBlocks}
+use Rattle.eccblock.specs.declared.Previous.{Previous}
+use Rattle.eccblock.specs.declared.Previous.the-variants.{None}
 use Rattle.eccblock.proofs.Laws.{block-length, block-bytes}
-use Rattle.channel.specs.Block.{permittedChoices, permittedStream, heavyRows, farRows, readBlock}
+use Rattle.eccblock.proofs.Runs.{accepted-any}
+use Rattle.channel.specs.Block.{Blocks, permittedRun, runStream, permittedChoices, permittedStream, heavyRows, farRows, readBlock}
 use Rattle.channel.specs.Bits.{bitsBytes, blockZeroRunFits}
+use Rattle.channel.proofs.Rows.{LaidBlock}
 use Rattle.channel.proofs.Sectors.{far-heavy}
-use Rattle.channel.proofs.BlockZeroRuns.{block-zero-runs}
+use Rattle.channel.proofs.Runs.{run-stream-length}
+use Rattle.channel.proofs.RunZeroRuns.{run-zero-runs}
 use Rattle.reader.specs.Sector.{unknownTally, syncTally, sectorReadNumber}
 use Rattle.reader.specs.Session.{Lent, callAnswer, blockBuffer}
 use Rattle.reader.proofs.Calls.{call-number≡0, block-buffer≡read-block}
@@ -44,6 +60,7 @@ use Rattle.blockreader.specs.BlockReader.{sectorSum, blockFits, blockReadAnswer
 use Rattle.blockreader.specs.declared.BlockRead.the-variants.{Block}
 use Rattle.theorems.proofs.ReadBytes.{read-block-length, read-block-bytes}
 use Rattle.theorems.proofs.Chain.{handed-out, main-back}
+use Rattle.theorems.proofs.Runs.{accepted-at, run-part}
 
 -- ---- what is claimed
 
@@ -69,17 +86,29 @@ pub record HandedOut (main : List ℕ) (first : ℕ) (xs : List ℕ) : Type 0 wh
   pub whole-main-data : (old : List ℕ) → length old ≡ mainSize → blockReadMain xs blockSize old ≡ main
 
 pub record Demand3 : Type 0 where
-  -- any 37,856 bytes, laid by any permitted choices
+  -- any blocks of 37,856 bytes, laid by any permitted choices
+  pub zero-runs : (run : List (List ℕ)) (cs : List Bool) → Blocks run → T (permittedRun run cs) → ZeroRunsFit (runStream run cs)
+  -- any accepted run, laid by any permitted choices, and any bytes xs read in place of its stream: its block i, with `before` before it and `after` after it, while
+  -- at most 8 of the block's rows are heavy
+  pub back : (before : List BlockInput) (i : BlockInput) (after : List BlockInput)
+      → let run = before ++ i ∷ after in
+        let part : List ℕ → List ℕ = λ ys. blockPart ys (length before) in
+        AcceptedRun None run → (cs : List Bool) → T (permittedRun (runBlocks run) cs)
+      → (xs : List ℕ) → length xs ≡ runSize (length run) → Bytes xs → heavyRows (part (runStream (runBlocks run) cs)) (part xs) ≤ 8
+      → HandedOut (i .main) (i .first) (part xs)
+
+-- the same of one block, with the closing code after it
+pub record Demand3Block : Type 0 where
   pub zero-runs : (bs : List ℕ) (cs : List Bool) → length bs ≡ blockSize → Bytes bs → T (permittedChoices bs cs)
       → ZeroRunsFit (permittedStream bs cs)
-  -- any accepted block, laid by any permitted choices, and any bytes xs read in place of its stream, while at most 8 rows are heavy
-  pub back : (main : List ℕ) (first info : ℕ) → Accepted main first info → (cs : List Bool) → T (permittedChoices (block main first info) cs)
+  pub back : {previous : Previous} (main : List ℕ) (first info : ℕ) → Accepted previous main first info → (cs : List Bool)
+      → T (permittedChoices (block main first info) cs)
       → (xs : List ℕ) → length xs ≡ streamSize → Bytes xs → heavyRows (permittedStream (block main first info) cs) xs ≤ 8
       → HandedOut main first xs
 
 -- ---- and proved
 
-module _ (main : List ℕ) (first info : ℕ) (ok : Accepted main first info) (xs : List ℕ) (whole : length xs ≡ streamSize) where
+module _ {previous : Previous} (main : List ℕ) (first info : ℕ) (ok : Accepted previous main first info) (xs : List ℕ) (whole : length xs ≡ streamSize) where
   abbrev made : List ℕ
   made = block main first info
 
@@ -99,12 +128,49 @@ module _ (main : List ℕ) (first info : ℕ) (ok : Accepted main first info) (x
         whole-main-data = λ old l. rw (eq-eqb (length xs) streamSize whole, eq-eqb (length old) mainSize l) (gives old l);
       }
 
-  -- no more rows are far than are heavy
-  few-far : (cs : List Bool) → T (permittedChoices made cs) → Bytes xs → heavyRows (permittedStream made cs) xs ≤ 8 → farRows (readBlock xs) made ≤ 8
-  few-far cs p hx few = omega (arith, far-heavy made cs xs (block-length main first info ok) (block-bytes main first info ok) p hx, few)
+  -- no more rows are far than are heavy, wherever in a run the block was laid
+  pub laid-back : {ys : List ℕ} → LaidBlock made ys → Bytes xs → heavyRows ys xs ≤ 8 → HandedOut main first xs
+  laid-back m hx few = near-handed-out (omega (arith, far-heavy m xs hx, few))
+
+-- block k of the bytes of a run of more than k blocks is 77,380 bytes
+part-length : (xs : List ℕ) (k n : ℕ) → k < n → length xs ≡ runSize n → length (blockPart xs k) ≡ streamSize
+part-length xs k n h e = length-take-le streamSize (drop (sectorsStream * k) xs) (omega (arith, length-drop (sectorsStream * k) xs))
+
+part-bytes : (xs : List ℕ) (k : ℕ) → Bytes xs → Bytes (blockPart xs k)
+part-bytes xs k h = take-bytes streamSize (drop (sectorsStream * k) xs) (drop-bytes (sectorsStream * k) xs h)
+
+in-run : (before : List BlockInput) (i : BlockInput) (after : List BlockInput) → length before < length (before ++ i ∷ after)
+in-run before i after = omega (arith, length-append before (i ∷ after))
 
 pub demand3 : Demand3
 demand3 = record {
-  zero-runs = block-zero-runs;
-  back = λ main first info ok cs p xs whole hx few. near-handed-out main first info ok xs whole (few-far main first info ok xs whole cs p hx few);
+  zero-runs = run-zero-runs;
+  back = λ before i after ok cs p xs size hx few.
+      laid-back (i .main) (i .first) (i .info) (accepted-at None before i after ok) (blockPart xs (length before))
+      (part-length xs (length before) (length (before ++ i ∷ after)) (in-run before i after) size) (run-part before i after cs ok p)
+      (part-bytes xs (length before) hx) few;
+}
+
+-- ---- one block
+
+-- the only block of a run is all of its stream
+part-all : (xs : List ℕ) → length xs ≡ streamSize → blockPart xs 0 ≡ xs
+part-all xs e = take-all streamSize xs (omega arith)
+
+one-back :
+    (main : List ℕ) (first info : ℕ) → Accepted None main first info → (cs : List Bool) → T (permittedChoices (block main first info) cs)
+    → (xs : List ℕ) → length xs ≡ streamSize → Bytes xs → heavyRows (permittedStream (block main first info) cs) xs ≤ 8 → HandedOut main first xs
+unfolding AcceptedRun runBlocks Blocks
+one-back main first info ok cs p xs size hx few =
+    let i : BlockInput = record { main = main; first = first; info = info } in
+    let laid = permittedStream (block main first info) cs in
+    let whole = run-stream-length (block main first info ∷ []) cs ((block-length main first info ok, block-bytes main first info ok), tt) p in
+    subst (HandedOut main first) (part-all xs size)
+    (demand3 .back [] i [] (ok, tt) cs p xs size hx (rw (part-all laid whole, part-all xs size) few))
+
+pub demand3-block : Demand3Block
+unfolding Blocks
+demand3-block = record {
+  zero-runs = λ bs cs e hb p. demand3 .zero-runs (bs ∷ []) cs ((e, hb), tt) p;
+  back = λ main first info ok. one-back main first info (accepted-any ok);
 }

@@ -1,5 +1,6 @@
 pub mod Chain
 pub mod ReadBytes
+pub mod Runs
 pub mod Demand
 pub mod Undamaged
 pub mod FormatBack

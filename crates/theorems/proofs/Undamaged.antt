@@ -1,8 +1,9 @@
--- The undamaged stream of an accepted block, whatever the permitted choices, reads to its main data and its first number with all tallies 0.
+-- The undamaged stream of an accepted block, whatever the permitted choices and wherever it stands in a run, reads to its main data and its first number with all
+-- tallies 0 (undamaged; run-undamaged, block-undamaged).
 -- Assumes nothing.
 use mathlib.Core.Path.{_≡_, refl, sym, ap, ap₂, subst, _∙_, _≡⟨_⟩_, _∎}
 use mathlib.Core.Bool.{Bool, true, false, not}
-use mathlib.Core.List.{List}
+use mathlib.Core.List.{List, _∷_, _++_}
 use Prim.Native.Nat.{ℕ, zero, suc, _+_, _*_, _-_, _/_, _%_, _<_, _≤_}
 use native.Mathlib.Omega.{arith}
 use borrow.Author.Tests.{eq-eqb, le-ltb}
@@ -26,13 +27,17 @@ use Rattle.layout.specs.Lengths.{mainSize, blockSize, sectorSize, streamSize, r
 use Rattle.eccblock.specs.Block.{block}
 use Rattle.layout.specs.Rows.{rowOf, columnOf}
 use Rattle.eccblock.specs.Encode.{Accepted}
+use Rattle.eccblock.specs.Run.{BlockInput, AcceptedRun, runBlocks}
+use Rattle.eccblock.specs.declared.Previous.{Previous}
+use Rattle.eccblock.specs.declared.Previous.the-variants.{None}
 use Rattle.eccblock.proofs.Cells.{code-row-length}
 use Rattle.eccblock.proofs.Laws.{block-length, block-bytes, block-row, block-column, block-row-code, block-column-code, code-row-bytes, code-column-bytes}
-use Rattle.layout.specs.Sectors.{frameCodes, codeOf, halfOf, sectorPart}
-use Rattle.channel.specs.Block.{permittedChoices, permittedStream, readBlock, farRows}
+use Rattle.layout.specs.Sectors.{frameCodes, codeOf, halfOf, sectorPart, blockPart}
+use Rattle.channel.specs.Block.{closed, permittedRun, runStream, permittedChoices, permittedStream, readBlock, farRows}
 use Rattle.bytes.specs.Halves.{halfAt}
 use Rattle.channel.proofs.Sectors.{part-half, half-of, half-small, reads-whole}
-use Rattle.channel.proofs.Joined.{permitted-length}
+use Rattle.channel.proofs.Rows.{LaidBlock}
+use Rattle.channel.proofs.Runs.{laid-length}
 use Rattle.channel.proofs.Undisturbed.{SyncAt, word-known, sync-known}
 use Rattle.reader.specs.Sector.{isUnknown, unknownAt, lostSync, unknownTally, syncTally}
 use Rattle.reader.specs.Session.{Lent, callAnswer, blockBuffer}
@@ -46,6 +51,7 @@ use Rattle.repairer.specs.declared.Repaired.the-variants.{Block as RepairedBloc
 use Rattle.blockreader.specs.BlockReader.{sectorSum, blockFits, blockReadAnswer}
 use Rattle.blockreader.specs.declared.BlockRead.the-variants.{Block}
 use Rattle.theorems.proofs.Chain.{handed-out}
+use Rattle.theorems.proofs.Runs.{accepted-at, run-part}
 use Rattle.theorems.proofs.Demand.{HandedOut, near-handed-out}
 
 abbrev pub noTally : Tally
@@ -73,7 +79,7 @@ no-tally p t w n h =
     (count-none (λ i. isCorrected (outcomeOf p t (w i))) 0 n (λ i l. let k : 0 + i ≡ i = omega arith in rw k (ap isCorrected (outcome-clean p t (w i) (h i l .0) (h i l .1)))))
     (count-none (λ i. isUncorrectable (outcomeOf p t (w i))) 0 n (λ i l. let k : 0 + i ≡ i = omega arith in rw k (ap isUncorrectable (outcome-clean p t (w i) (h i l .0) (h i l .1)))))
 
-module _ (main : List ℕ) (first info : ℕ) (ok : Accepted main first info) where
+module _ {previous : Previous} (main : List ℕ) (first info : ℕ) (ok : Accepted previous main first info) where
   abbrev made : List ℕ
   made = block main first info
 
@@ -124,10 +130,7 @@ module _ (main : List ℕ) (first info : ℕ) (ok : Accepted main first info) wh
 
   -- ---- the sector reader's tallies of a permitted stream
 
-  module _ (cs : List Bool) (p : T (permittedChoices made cs)) where
-    abbrev laid : List ℕ
-    laid = permittedStream made cs
-
+  module _ {laid : List ℕ} (m : LaidBlock made laid) where
     known : (k i : ℕ) → k < 16 → i < sectorSize → unknownAt (sectorPart laid k) i ≡ false
     unfolding unknownAt
     known k i hk hi =
@@ -136,7 +139,7 @@ module _ (main : List ℕ) (first info : ℕ) (ok : Accepted main first info) wh
         let b : 2418 * k + (halfOf i + 1) ≡ halfOf (sectorSize * k + i) + 1 = omega (arith, a) in
         ap isUnknown
         (ap₂ readWord (part-half laid k (halfOf i) (omega (arith, s)) ∙ ap (halfAt laid) a) (part-half laid k (halfOf i + 1) (omega (arith, s)) ∙ ap (halfAt laid) b)
-        ∙ word-known made cs (block-length main first info ok) (block-bytes main first info ok) p (sectorSize * k + i) (omega arith))
+        ∙ word-known m (sectorSize * k + i) (omega arith))
 
     unknown-none : (k : ℕ) → k < 16 → unknownTally (sectorPart laid k) ≡ 0
     unfolding unknownTally
@@ -146,10 +149,9 @@ module _ (main : List ℕ) (first info : ℕ) (ok : Accepted main first info) wh
     unfolding lostSync codeOf
     found k f hk hf =
         let g = 26 * k + f in
-        let s : SyncAt (codeOf g) (halfAt laid (93 * g)) (halfAt laid (93 * g + 1)) =
-        sync-known made cs (block-length main first info ok) (block-bytes main first info ok) p g (omega arith) in
-        let m : g % 26 ≡ f % 26 = omega arith in
-        let n : codeOf g ≡ codeOf f = ap (λ (x : ℕ). getD frameCodes x 0) m in
+        let s : SyncAt (codeOf g) (halfAt laid (93 * g)) (halfAt laid (93 * g + 1)) = sync-known m g (omega arith) in
+        let e : g % 26 ≡ f % 26 = omega arith in
+        let n : codeOf g ≡ codeOf f = ap (λ (x : ℕ). getD frameCodes x 0) e in
         let a : halfAt (sectorPart laid k) (93 * f) ≡ halfAt laid (93 * g) = part-half laid k (93 * f) (omega arith) ∙ ap (halfAt laid) (omega arith) in
         let b : halfAt (sectorPart laid k) (93 * f + 1) ≡ halfAt laid (93 * g + 1) = part-half laid k (93 * f + 1) (omega arith) ∙ ap (halfAt laid) (omega arith) in
         ap not (code-is-sync (codeOf f) (halfAt (sectorPart laid k) (93 * f)) (halfAt (sectorPart laid k) (93 * f + 1)) (s .state) (s .choice) (s .is-state)
@@ -165,15 +167,15 @@ module _ (main : List ℕ) (first info : ℕ) (ok : Accepted main first info) wh
     sum-none t h (suc n) k l = ap₂ (λ (x y : ℕ). x + y) (h k (omega arith)) (sum-none t h n (suc k) (omega arith))
 
     whole : length laid ≡ streamSize
-    whole = permitted-length made cs (block-length main first info ok) p
+    whole = laid-length m
 
     reads-made : readBlock laid ≡ made
-    reads-made = reads-whole made cs (block-length main first info ok) (block-bytes main first info ok) p
+    reads-made = reads-whole m
 
     laid-handed-out : HandedOut main first laid
     laid-handed-out = near-handed-out main first info ok laid whole (rw reads-made (omega (arith, far-self≡0)))
 
-    -- THE UNDAMAGED STREAM
+    -- THE UNDAMAGED STREAM of a block anywhere in a run
     pub undamaged : Undamaged main first laid
     unfolding blockReadAnswer blockFits
     undamaged = record {
@@ -184,3 +186,27 @@ module _ (main : List ℕ) (first info : ℕ) (ok : Accepted main first info) wh
           rw (eq-eqb (length laid) streamSize whole, reads-made, made-handed-out)
           (ap₂ (Block first noTallies) (sum-none unknownTally unknown-none 16 0 (omega arith)) (sum-none syncTally lost-none 16 0 (omega arith)));
     }
+
+-- each block of a run's permitted stream
+pub run-undamaged :
+    (before : List BlockInput) (i : BlockInput) (after : List BlockInput) → AcceptedRun None (before ++ i ∷ after) → (cs : List Bool)
+    → T (permittedRun (runBlocks (before ++ i ∷ after)) cs)
+    → Undamaged (i .main) (i .first) (blockPart (runStream (runBlocks (before ++ i ∷ after)) cs) (length before))
+run-undamaged before i after ok cs p = undamaged (i .main) (i .first) (i .info) (accepted-at None before i after ok) (run-part before i after cs ok p)
+
+-- a block by itself, with the closing code after it
+pub block-undamaged :
+    {previous : Previous} (main : List ℕ) (first info : ℕ) (ok : Accepted previous main first info) (cs : List Bool) → T (permittedChoices (block main first info) cs)
+    → Undamaged main first (permittedStream (block main first info) cs)
+block-undamaged main first info ok cs p =
+    undamaged main first info ok
+    (record {
+      state = 1;
+      last = 0;
+      choices = closed cs;
+      size = block-length main first info ok;
+      bytes = block-bytes main first info ok;
+      is-state = record { low = omega arith; high = omega arith };
+      ok = p;
+      is = refl;
+    })

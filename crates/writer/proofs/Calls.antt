@@ -237,6 +237,14 @@ module _ (w : Record) (bs : List ℕ) (outs : ℕ → List ℕ) (o : Open w sect
         stream = g .laid;
       }
 
+-- the records between are handed back
+pub handed-calls : (w : Record) (bs : List ℕ) (outs : ℕ → List ℕ) → Bytes bs → Handed w → (n : ℕ) → Handed (sectorCalls w bs outs n .next)
+unfolding sectorCalls
+handed-calls w bs outs hb h zero = h
+handed-calls w bs outs hb h (suc n) =
+    after-sector (sectorCalls w bs outs n .next) (sectorAt bs n) (length (outs n))
+    (take-bytes sectorSize (drop (sectorSize * n) bs) (drop-bytes (sectorSize * n) bs hb)) (handed-calls w bs outs hb h n)
+
 -- ---- a run
 
 -- the calls over a run and for closing from the record w: none is refused, and what they leave is what the rule over the run says, the record closed

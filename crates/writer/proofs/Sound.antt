@@ -11,7 +11,7 @@ use lib.IntN.{natAbs}
 use lib.ListN.{length}
 use Rattle.lists.specs.Count.{bit}
 use Rattle.lists.proofs.Count.{bit-le}
-use Rattle.lists.proofs.Test.{and-left, and-right, and-both}
+use Rattle.lists.proofs.Test.{truth, and-left, and-right, and-both}
 use Rattle.annexg.specs.Read.{State}
 use Rattle.annexg.specs.ZeroRuns.{inside}
 use Rattle.bytes.specs.Halves.{packed}
@@ -228,6 +228,11 @@ block-opens w z = by (sound w) (ended w sectorCount) refl refl z
     by false d r s z = absurd (omega arith)
     by true true r s z = absurd (omega arith)
     by true false r s z = open-by w sectorCount r s
+
+pub open-taken : (w : Record) → Open w sectorCount → blockRefusal w ≡ 0
+unfolding blockRefusal
+open-taken w o =
+    ap₂ (λ (s e : Bool). cond s (cond e 7 0) 9) (truth (sound w) (is-sound w (o .is))) (open-not-ended w sectorCount o)
 
 pub record OpenEnd (w : Record) (to : ℕ) : Type 0 where
   pub to-is : to ≡ closingSize
