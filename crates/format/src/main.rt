@@ -31,7 +31,7 @@ fn usage() {
     say(b"FIRST: first sector's number, six hexadecimal digits; INFO: Sector Information, two\n");
 }
 
-fn print_refusal(number: u8) {
+fn print_refusal(number: u32) {
     if number == 1 {
         say(b"refused 1\nstandard input is not 32,768 bytes\n");
     } else if number == 2 {
@@ -46,7 +46,7 @@ fn format(first: u32, info: u8) {
     let mut stream = stream_room();
     let n = io::read_full(STDIN_FILENO, &mut main);
     let e = formatter::format_block(&main[..n], first, info, &mut stream);
-    let number = eccblock::encode_number(e);
+    let number = formatter::formatted_number(e);
     if number != 0 {
         print_refusal(number);
         return;

@@ -160,15 +160,15 @@ pub fn write_block(
         };
     }
     let mut block = block_room();
-    let answer = make(current, previous, main, first, info, &mut block);
-    if formatted_number(answer) != 0 {
+    let made = make(current, previous, main, first, info, &mut block);
+    if formatted_number(made) != 0 {
         return BlockStep {
             next: current,
-            answer,
+            answer: made,
         };
     }
     let next = write_sectors(current, &block, out);
-    BlockStep { next, answer }
+    BlockStep { next, answer: made }
 }
 
 // ---- the run of one block

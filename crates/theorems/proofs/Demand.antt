@@ -92,8 +92,8 @@ pub record Demand3 : Type 0 where
   -- at most 8 of the block's rows are heavy
   pub back : (before : List BlockInput) (i : BlockInput) (after : List BlockInput)
       → let run = before ++ i ∷ after in
-        let part : List ℕ → List ℕ = λ ys. blockPart ys (length before) in
-        AcceptedRun None run → (cs : List Bool) → T (permittedRun (runBlocks run) cs)
+      let part : List ℕ → List ℕ = λ ys. blockPart ys (length before) in
+      AcceptedRun None run → (cs : List Bool) → T (permittedRun (runBlocks run) cs)
       → (xs : List ℕ) → length xs ≡ runSize (length run) → Bytes xs → heavyRows (part (runStream (runBlocks run) cs)) (part xs) ≤ 8
       → HandedOut (i .main) (i .first) (part xs)
 

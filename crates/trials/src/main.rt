@@ -1,5 +1,5 @@
-// The unstarred trials of document 01's table, and what a second formatter made (tests/), run through the library. It prints a line a case; `stdout` beside
-// this folder holds what is due. The cases are in `data/`.
+// The unstarred trials of document 01's table, the refusals of a run (document 02, request 1), and what a second formatter made (tests/), run through the library.
+// It prints a line a case; `stdout` beside this folder holds what is due. The cases are in `data/`.
 mod compare;
 mod signed;
 
@@ -7,11 +7,13 @@ ghost use mathlib.Core.Path.{_≡_};
 ghost use lib.ListN.{length};
 ghost use Rattle.layout.specs.Lengths.{mainSize, blockSize, streamSize};
 use codes::Outcome;
+use eccblock::Previous;
 use layout::BLOCK_SIZE;
 use layout::CLOSING_SIZE;
 use layout::LAST_FIRST;
 use layout::MAIN_SIZE;
 use layout::ROW_SIZE;
+use layout::RUN_SECTORS;
 use layout::SECTOR_COUNT;
 use layout::SECTOR_SIZE;
 use layout::SECTOR_STREAM;
@@ -27,6 +29,7 @@ fn main() {
     trial13();
     blocks();
     trial15();
+    sequences();
     informations();
     lengths();
     streams();
@@ -183,7 +186,7 @@ fn block_case(main_path: &[u8], block_path: &[u8], first: u32, info: u8) {
     let mut out = block_buffer();
     load(main_path, &mut main);
     load(block_path, &mut due);
-    let e = eccblock::encode_block(&main, first, info, &mut out);
+    let e = eccblock::encode_block(&main, Previous::None, first, info, &mut out);
     print(main_path);
     say(b": answer ", eccblock::encode_number(e) as u64);
     print(b", ");
@@ -201,8 +204,34 @@ fn number_case(first: u32) {
     let main = main_buffer();
     let mut out = block_buffer();
     let before = out;
-    let e = eccblock::encode_block(&main, first, 0, &mut out);
+    let e = eccblock::encode_block(&main, Previous::None, first, 0, &mut out);
     say(b"trial 15: first number ", first as u64);
+    say(b", answer ", eccblock::encode_number(e) as u64);
+    print_buffer(&out, &before);
+}
+
+// Blocks that follow on (document 02, request 1): the previous one's first number plus 16, and no wrap-around.
+fn sequences() {
+    sequence_case(0, 16, 0);
+    sequence_case(0, 0, 0);
+    sequence_case(0, 32, 0);
+    sequence_case(16, 0, 0);
+    sequence_case(16777184, LAST_FIRST, 0);
+    sequence_case(LAST_FIRST, LAST_FIRST, 0);
+    sequence_case(4294967280, 0, 0);
+    sequence_case(0, 8, 0xFF);
+    sequence_case(0, 32, 0xFF);
+    sequence_case(8, 24, 0);
+}
+
+fn sequence_case(previous: u32, first: u32, info: u8) {
+    let main = main_buffer();
+    let mut out = block_buffer();
+    let before = out;
+    let e = eccblock::encode_block(&main, Previous::First(previous), first, info, &mut out);
+    say(b"previous number ", previous as u64);
+    say(b", first number ", first as u64);
+    say(b", Sector Information ", info as u64);
     say(b", answer ", eccblock::encode_number(e) as u64);
     print_buffer(&out, &before);
 }
@@ -222,7 +251,7 @@ fn information_case(info: u8) {
     let main = main_buffer();
     let mut out = block_buffer();
     let before = out;
-    let e = eccblock::encode_block(&main, 0, info, &mut out);
+    let e = eccblock::encode_block(&main, Previous::None, 0, info, &mut out);
     let n = eccblock::encode_number(e);
     say(b"", n as u64);
     if n != 0 {
@@ -267,7 +296,7 @@ fn made(main: &[u8], n: usize, first: u32, info: u8, out: &mut [u8], m: usize) -
     if out.len() < m {
         return 255;
     }
-    let e = eccblock::encode_block(&main[..n], first, info, &mut out[..m]);
+    let e = eccblock::encode_block(&main[..n], Previous::None, first, info, &mut out[..m]);
     eccblock::encode_number(e)
 }
 
@@ -554,6 +583,24 @@ fn refused_records() {
     record_case(record(4, 1, -619040, 16, true));
     record_case(record(4, 1, -619041, 16, true));
     record_case(record(1, 0, 0, 15, false));
+    record_case(record(1, 0, 0, 0, false));
+    record_case(record(1, 0, 0, 0, true));
+    record_case(record(1, 0, 0, 8, false));
+    record_case(record(1, 0, 0, 17, true));
+    record_case(record(2, 1, 0, 32, false));
+    record_case(record(1, 0, 0, 32, true));
+    run_end_cases();
+}
+
+// The most that a run can have: 16,777,216 sectors, and 38,688 times as much of DSV.
+fn run_end_cases() {
+    record_case(record(1, 0, 0, 16777215, false));
+    record_case(record(1, 0, 649076932608, RUN_SECTORS, false));
+    record_case(record(1, 0, -649076932609, RUN_SECTORS, false));
+    record_case(record(1, 0, 649076932640, RUN_SECTORS, true));
+    record_case(record(1, 0, -649076932641, RUN_SECTORS, true));
+    record_case(record(1, 0, 0, 16777217, false));
+    record_case(record(1, 0, 0, 16777232, true));
 }
 
 fn record_case(w: Record) {
