@@ -10,11 +10,9 @@ use common::{buffer, frame_place, main_data, stream_of, with_parity};
 const OLD: u8 = 165;
 
 #[test]
-fn length_1() {
-    let mut record = Record::new();
+fn length_1_of_maker_and_formatter() {
     let mut out = vec![OLD; STREAM + 1];
     let (main, long) = (vec![0; MAIN], vec![0; MAIN + 1]);
-    let mut two = [7; 2];
     assert_eq!(
         slices::encode_block(&long, None, 0, 0, &mut out[..BLOCK]),
         Err(Refusal::Length)
@@ -31,6 +29,14 @@ fn length_1() {
         slices::format_block(&main, 0, 0, &mut out[..]),
         Err(Refusal::Length)
     );
+    assert_eq!(out, vec![OLD; STREAM + 1]);
+}
+
+#[test]
+fn length_1_of_the_writer() {
+    let mut record = Record::new();
+    let mut out = vec![OLD; STREAM + 1];
+    let (main, long) = (vec![0; MAIN], vec![0; MAIN + 1]);
     assert_eq!(
         slices::write_sector(&mut record, &main[..=SECTOR], &mut out[..SECTOR_STREAM]),
         Err(Refusal::Length)
@@ -51,6 +57,12 @@ fn length_1() {
         slices::close(&mut record, &mut out[..=CLOSING]),
         Err(Refusal::Length)
     );
+    assert_eq!((record, out), (Record::new(), vec![OLD; STREAM + 1]));
+}
+
+#[test]
+fn length_1_of_sectors_and_words() {
+    let (main, mut out, mut two) = (vec![0; MAIN], vec![OLD; MAIN], [7; 2]);
     assert_eq!(
         slices::read_sector(&main[..SECTOR_READ - 1], &mut out[..SECTOR], &mut two),
         Err(Refusal::Length)
@@ -77,8 +89,7 @@ fn length_1() {
         slices::correct_column(&mut out[..207]),
         Err(Refusal::Length)
     );
-    assert_eq!(out, vec![OLD; STREAM + 1]);
-    assert_eq!((record, two), (Record::new(), [7; 2]));
+    assert_eq!((out, two), (vec![OLD; MAIN], [7; 2]));
 }
 
 #[test]
