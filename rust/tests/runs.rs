@@ -197,6 +197,10 @@ fn one_block_and_another() {
         .unwrap();
     writer.close(closing.try_into().unwrap()).unwrap();
     assert!(stream == format_block(&main, 16, 0).unwrap());
+    // the zero runs go on into the four bytes after a block
+    assert!(zero_runs_hold(&stream[..]));
+    stream[BLOCK_STREAM + 3] ^= 0x08;
+    assert!(!zero_runs_hold(&stream[..]));
     assert_ne!(
         Record {
             sectors: 0,

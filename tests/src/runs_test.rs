@@ -10,7 +10,7 @@ use crate::report::Report;
 use crate::run::{block_refusal, blocks_of, part, previous_of, write_block, Input, BLOCK_LAID};
 use crate::tables::Tables;
 use crate::vectors_test;
-use crate::writer_test::{odd_record, random_record};
+use crate::writer_test::{odd_record, random_record, records_at_ends};
 use crate::writing::{permitted_stream, write_run, Record, LAID, SECTOR};
 
 /// Blocks that follow on, from a random first number, or up to the last number there is.
@@ -117,7 +117,22 @@ fn odd_input(random: &mut Random) -> (Option<u32>, Input) {
     (previous, Input { main: random.bytes(size), first, info })
 }
 
-/// The call for a whole block: every number that it has and the order of them; what is refused is left, what is not is written alike.
+/// The call for a whole block, by both: what is refused is left, what is not is written alike. The number due.
+fn compare_block(report: &mut Report, t: &Tables, record: Record, previous: Option<u32>, input: &Input, to: usize) -> u32 {
+    let due = block_refusal(&record, previous, input, to);
+    let (mut ours, mut out) = (record, vec![0xA5; to]);
+    let answer = library::write_block(&mut ours, previous, &input.main, input.first, input.info, &mut out);
+    let (mut theirs, mut bytes) = (record, vec![0xA5; to]);
+    if due == 0 {
+        bytes = write_block(t, &mut theirs, input);
+    }
+    report.check(answer == due && ours == theirs && out == bytes, || {
+        format!("{record:?}, {} after {previous:?}, information {}: {answer} for {due}", input.first, input.info)
+    });
+    due
+}
+
+/// Every number of the call for a whole block and their order, by chance; all of them come up.
 pub fn refusals(report: &mut Report, random: &mut Random, t: &Tables, count: usize) {
     report.begin("runs: refusals of the call for a whole block");
     let mut seen = [0; 11];
@@ -125,20 +140,20 @@ pub fn refusals(report: &mut Report, random: &mut Random, t: &Tables, count: usi
         let (previous, input) = odd_input(random);
         let record = if random.coin() { odd_record(random) } else { random_record(random) };
         let to = BLOCK_LAID - 1 + [1, 1, 1, 0, 2][random.below(5)];
-        let due = block_refusal(&record, previous, &input, to);
-        seen[due as usize] += 1;
-        let (mut ours, mut out) = (record, vec![0xA5; to]);
-        let answer = library::write_block(&mut ours, previous, &input.main, input.first, input.info, &mut out);
-        let (mut theirs, mut bytes) = (record, vec![0xA5; to]);
-        if due == 0 {
-            bytes = write_block(t, &mut theirs, &input);
-        }
-        report.check(answer == due && ours == theirs && out == bytes, || {
-            format!("{record:?}, {} after {previous:?}, information {}: {answer} for {due}", input.first, input.info)
-        });
+        seen[compare_block(report, t, record, previous, &input, to) as usize] += 1;
     }
     let is_seen = [0, 1, 2, 3, 7, 9, 10].into_iter().all(|number: usize| seen[number] > 0);
     report.check(is_seen, || format!("how often each number: {seen:?}"));
+    report.end();
+}
+
+/// A whole block from records around every number that a refusal looks at.
+pub fn ends(report: &mut Report, random: &mut Random, t: &Tables) {
+    report.begin("runs: a whole block at the ends of a run");
+    let inputs = random_inputs(random, 2);
+    for record in records_at_ends() {
+        compare_block(report, t, record, Some(inputs[0].first), &inputs[1], BLOCK_LAID);
+    }
     report.end();
 }
 
@@ -299,6 +314,7 @@ fn damaged_vector(report: &mut Report, random: &mut Random, reader: &Reader) {
 pub fn all(report: &mut Report, random: &mut Random, t: &Tables, reader: &Reader) {
     written(report, random, t, 1..=40);
     refusals(report, random, t, 5_000);
+    ends(report, random, t);
     chosen(report, random, t, reader, &[1, 2, 3, 5, 8, 13, 40]);
     one_damaged(report, random, t, reader, &[1, 2, 3, 4, 6]);
     seams(report, random, t, reader);

@@ -150,19 +150,25 @@ pub fn odd_record(random: &mut Random) -> Record {
     }
 }
 
-/// The counts, limits and ends of a run, all of them: what is refused is left, and what is not is written alike.
-pub fn ends(report: &mut Report, random: &mut Random, t: &Tables) {
-    report.begin("writer: records at the ends of a run");
-    let bytes = random_sector(random);
+/// Every one of the counts with each of its limits, open and closed, in sound States and levels and in others.
+pub fn records_at_ends() -> Vec<Record> {
+    let mut records = Vec::new();
     for sectors in COUNTS {
         for dsv in limits(sectors).into_iter().flat_map(|dsv| [dsv, -dsv]) {
             for (state, level) in [(1, 0), (2, 1), (3, 1), (4, 0), (0, 0), (5, 1), (1, 2)] {
-                for closed in [false, true] {
-                    let record = Record { state, level, dsv, sectors, closed };
-                    end(report, t, record, &bytes);
-                }
+                records.extend([false, true].map(|closed| Record { state, level, dsv, sectors, closed }));
             }
         }
+    }
+    records
+}
+
+/// Records around every number that a refusal looks at: what is refused is left, and what is not is written alike.
+pub fn ends(report: &mut Report, random: &mut Random, t: &Tables) {
+    report.begin("writer: records at the ends of a run");
+    let bytes = random_sector(random);
+    for record in records_at_ends() {
+        end(report, t, record, &bytes);
     }
     report.end();
 }
