@@ -1,14 +1,18 @@
 /* Chamanzil: the 80 mm DVD channel (ECMA-268), from main data to code bits and back.
  *
  * The functions of target/staticlib/libffi.a, which `rt staticlib ffi` builds. Each is proved to do what its contract in crates/ffi/src says, never to do
- * anything undefined, and to return; the contracts cite definitions taken from the standard and from document 01. This file repeats them in words.
+ * anything undefined, and to return; the contracts cite definitions taken from the standard and from documents 01 and 02. This file repeats them in words.
  *
  * Buffers. A buffer is two arguments: a pointer to its first byte and its length. A pointer is never NULL, not even where the length is 0. A buffer that is
  * written (no `const`) overlaps no other argument; nor does a record. What was written is all of a buffer or nothing: no call leaves a half-filled buffer.
  *
- * Answers. 0: done. 1 to 9: refused, by the numbers below, and then every buffer and record is as it was, except where a function says otherwise. Where
- * several numbers apply, the lowest is given, but 9 goes before 7 and 8. Where none applies, nothing is refused. Every refusal is below 256; from 256 on are the
- * outcomes of a call that was not refused.
+ * Answers. 0: done. 1 to 10: refused, by the numbers below, and then every buffer and record is as it was, except where a function says otherwise. Where
+ * several numbers apply, the lowest is given, but 10 goes right after 3, and 9 before 7 and 8. Where none applies, nothing is refused. Every refusal is below
+ * 256; from 256 on are the outcomes of a call that was not refused.
+ *
+ * Runs. A run is a list of blocks that follow on: the first number of each is 16 more than that of the block before. Its stream has the sixteen sectors of each
+ * block, CHAMANZIL_BLOCK_STREAM bytes a block, and the closing code after the last. Block k of it, from 0, is read from the CHAMANZIL_STREAM bytes at
+ * CHAMANZIL_BLOCK_STREAM k: its sectors and the four bytes after them, which are the next block's SYNC Code or the closing code.
  *
  * Threads. The functions keep no state, take no lock and allocate nothing: any number of threads may call them at once, on buffers of their own (a buffer that
  * is only read may be shared). A call needs less than 256 KiB of stack.
@@ -36,7 +40,8 @@ enum {
     CHAMANZIL_SECTOR_STREAM = 4836, /* a sector of a stream: 26 Sync Frames of 186 bytes */
     CHAMANZIL_SECTOR_READ = 4838,   /* the same with the two bytes after it */
     CHAMANZIL_CLOSING = 4,          /* the closing code */
-    CHAMANZIL_STREAM = 77380,       /* a block's stream: 16 sectors and the closing code */
+    CHAMANZIL_BLOCK_STREAM = 77376, /* a block in a run's stream: 16 sectors */
+    CHAMANZIL_STREAM = 77380,       /* the same with the four bytes after it */
     CHAMANZIL_ROW_DATA = 172,       /* a row without its parity, */
     CHAMANZIL_ROW_PARITY = 10,
     CHAMANZIL_ROW = 182,            /* and with it */
@@ -50,6 +55,10 @@ enum {
     CHAMANZIL_BLOCK_REPORT = 8      /* of the whole-block reader */
 };
 
+/* ---- the most sectors of a run */
+
+enum { CHAMANZIL_RUN_SECTORS = 16777216 };
+
 /* ---- done, and the refusals */
 
 enum {
@@ -60,9 +69,10 @@ enum {
     CHAMANZIL_IED = 4,            /* a frame's IED differs */
     CHAMANZIL_ID = 5,             /* a frame's number or Information is not the one due, or frame 0's is none that a block may have */
     CHAMANZIL_EDC = 6,            /* a frame's EDC differs */
-    CHAMANZIL_ENDED = 7,          /* a sector after the sixteenth, or anything after closing */
-    CHAMANZIL_UNFINISHED = 8,     /* closing before the sixteenth sector */
-    CHAMANZIL_RECORD = 9          /* a record that the writer never hands out */
+    CHAMANZIL_ENDED = 7,          /* a sector after number 16,777,216 of the run, or anything after closing */
+    CHAMANZIL_UNFINISHED = 8,     /* closing at no sectors, or at a count that is no multiple of 16 */
+    CHAMANZIL_RECORD = 9,         /* a record that the writer never hands out */
+    CHAMANZIL_SEQUENCE = 10       /* the first number is not the previous block's first number plus 16 */
 };
 
 /* ---- outcomes of a row or a column that was no code word, above every refusal */
@@ -79,34 +89,44 @@ enum { CHAMANZIL_UNKNOWN_WORD = 256 };
 /* ---- from main data to a stream */
 
 /* The block maker (clauses 16 to 19). `main` has CHAMANZIL_MAIN bytes, `out` CHAMANZIL_BLOCK. `first` is the number of the block's first sector, `info` the
- * Sector Information byte. 0, 1, 2 or 3. After 0 `out` holds the block in recording order; after a refusal it is as it was. */
-uint32_t chamanzil_encode_block(const uint8_t *main, size_t main_len, uint32_t first, uint8_t info, uint8_t *out, size_t out_len);
+ * Sector Information byte. `follows` says whether a block comes before in the run; `previous` is that block's first number, which counts only then, and `first`
+ * has to be 16 more (4,294,967,280 is followed by nothing: the sum does not wrap). 0, 1, 2, 3 or 10, in this order where several apply. After 0 `out` holds the
+ * block in recording order; after a refusal it is as it was. */
+uint32_t chamanzil_encode_block(const uint8_t *main, size_t main_len, bool follows, uint32_t previous, uint32_t first, uint8_t info, uint8_t *out, size_t out_len);
 
-/* The formatter: the block maker, then the writer from a new record, in one call. `main` has CHAMANZIL_MAIN bytes, `out` CHAMANZIL_STREAM. 0, 1, 2 or 3.
- * After 0 `out` holds the sixteen sectors and the closing code; after a refusal it is as it was. */
+/* The formatter, for the run of one block: the block maker with none before, the writer from a new record, and closing, in one call. `main` has CHAMANZIL_MAIN
+ * bytes, `out` CHAMANZIL_STREAM. 0, 1, 2 or 3. After 0 `out` holds the sixteen sectors and the closing code; after a refusal it is as it was. */
 uint32_t chamanzil_format_block(const uint8_t *main, size_t main_len, uint32_t first, uint8_t info, uint8_t *out, size_t out_len);
 
-/* The writer's record. The caller keeps it for as long as the writer runs and lends it to each call, by a pointer that is never NULL. A call that answers 0
- * leaves the next record there, and a refusal leaves it as it was. The members may be read, kept elsewhere and put back at any time: a record that no writer
- * hands out is refused with 9. `closed` holds 0 or 1 and nothing else. The bytes between the members have no meaning: compare members. */
+/* The writer's record. The caller keeps it for as long as the writer runs, over all blocks of a run, and lends it to each call, by a pointer that is never NULL.
+ * A call that answers 0 leaves the next record there, and a refusal leaves it as it was. The members may be read, kept elsewhere and put back at any time. A
+ * record that no writer hands out is refused with 9: a State that is not 1 to 4, a level that is not 0 or 1, more than CHAMANZIL_RUN_SECTORS sectors, closed at 0
+ * or at a count that is no multiple of 16, or a DSV over 38,688 a sector (and 32 if closed) to either side. `closed` holds 0 or 1 and nothing else. The bytes
+ * between the members have no meaning: compare members. */
 struct chamanzil_record {
     uint8_t state;    /* the State prescribed next, 1 to 4 */
     uint8_t level;    /* the NRZI level, 0 or 1 */
     int64_t dsv;      /* the Digital Sum Value so far */
-    uint32_t sectors; /* sectors written, 0 to 16 */
+    uint32_t sectors; /* sectors of the run written, 0 to 16,777,216 */
     bool closed;      /* whether the closing code is written */
 };
 
-/* The record before the first sector: State 1, level 0, DSV 0, no sector, not closed. What `kept` held does not matter, but for `closed`, which holds 0 or 1
- * as always. */
+/* The record before the first sector of a run: State 1, level 0, DSV 0, no sector, not closed. What `kept` held does not matter, but for `closed`, which holds
+ * 0 or 1 as always. */
 void chamanzil_new_record(struct chamanzil_record *kept);
 
 /* A sector by the two-stream rule of clause 22. `bytes` has CHAMANZIL_SECTOR bytes (sector k of a block starts at byte 2366 k), `out` CHAMANZIL_SECTOR_STREAM.
- * 0, 1, 7 or 9. After 0 `out` holds the sector's code bits, eight to a byte, first bit highest, and `kept` the next record. After a refusal both are as they
- * were. */
+ * 0, 1, 9 or 7. After 0 `out` holds the sector's code bits, eight to a byte, first bit highest, and `kept` the next record. After a refusal both are as they
+ * were. The bytes are the caller's: what block they are of is not looked at. */
 uint32_t chamanzil_write_sector(struct chamanzil_record *kept, const uint8_t *bytes, size_t bytes_len, uint8_t *out, size_t out_len);
 
-/* The closing code after the sixteenth sector. `out` has CHAMANZIL_CLOSING bytes. 0, 1, 7, 8 or 9, with `out` and `kept` as above. */
+/* A whole block of a run: the block maker, then sixteen sectors. `main` has CHAMANZIL_MAIN bytes, `out` CHAMANZIL_BLOCK_STREAM; `follows`, `previous`, `first`
+ * and `info` are the block maker's. 0, 1, 2, 3, 10, 9 or 7, in this order where several apply: what the maker refuses, then what the writer refuses, with 7 where
+ * sixteen more sectors do not fit. A count of sectors that is no multiple of 16 is refused by nothing. After 0 `out` holds the sixteen sectors and `kept` the
+ * record after them. After a refusal both are as they were. */
+uint32_t chamanzil_write_block(struct chamanzil_record *kept, bool follows, uint32_t previous, const uint8_t *main, size_t main_len, uint32_t first, uint8_t info, uint8_t *out, size_t out_len);
+
+/* The closing code after the last block of a run. `out` has CHAMANZIL_CLOSING bytes. 0, 1, 9, 7 or 8, with `out` and `kept` as above. */
 uint32_t chamanzil_close(struct chamanzil_record *kept, uint8_t *out, size_t out_len);
 
 /* ---- from a stream back to main data */
@@ -123,10 +143,11 @@ uint32_t chamanzil_read_sector(const uint8_t *stream, size_t stream_len, uint8_t
  * frame that fails, 0 to 15. After 1 all three are as they were. */
 uint32_t chamanzil_repair_block(uint8_t *block, size_t block_len, uint8_t *main, size_t main_len, uint32_t *report, size_t report_len);
 
-/* The whole-block reader: sixteen sectors, then the repairer. `stream` has CHAMANZIL_STREAM bytes, `block` CHAMANZIL_BLOCK, `main` CHAMANZIL_MAIN, `report`
- * CHAMANZIL_BLOCK_REPORT numbers. 0, 1, 4, 5 or 6, with `block` and `main` as the repairer leaves them; what `block` held before does not matter. After 0
- * `report` holds the first number, the rows changed and past help, the columns changed and past help, the unknown words and the SYNC places without a code due
- * there, summed over the sectors, and 0. After 4, 5 or 6 it holds seven zeros and the frame. After 1 all three are as they were. */
+/* The whole-block reader: sixteen sectors, then the repairer. `stream` has CHAMANZIL_STREAM bytes, a block's sectors and the four bytes after them, by which the
+ * last word is judged: a closing code or the next block's SYNC Code. `block` has CHAMANZIL_BLOCK bytes, `main` CHAMANZIL_MAIN, `report` CHAMANZIL_BLOCK_REPORT
+ * numbers. 0, 1, 4, 5 or 6, with `block` and `main` as the repairer leaves them; what `block` held before does not matter. After 0 `report` holds the first
+ * number, the rows changed and past help, the columns changed and past help, the unknown words and the SYNC places without a code due there, summed over the
+ * sectors, and 0. After 4, 5 or 6 it holds seven zeros and the frame. After 1 all three are as they were. */
 uint32_t chamanzil_read_block(const uint8_t *stream, size_t stream_len, uint8_t *block, size_t block_len, uint8_t *main, size_t main_len, uint32_t *report, size_t report_len);
 
 /* ---- rows and columns of a block */

@@ -1,5 +1,5 @@
-/* Formats a block, damages its stream and reads it back, by the calls of chamanzil.h. Exits with 1 where anything differs from what is due.
- * It is C99 and also C++: include/run compiles it as both. */
+/* Formats a block, damages its stream and reads it back, then writes a run of two blocks and reads each, by the calls of chamanzil.h. Exits with 1 where anything
+ * differs from what is due. It is C99 and also C++: include/run compiles it as both. */
 #include "chamanzil.h"
 
 #include <stdio.h>
@@ -12,12 +12,22 @@ static uint8_t stream[CHAMANZIL_STREAM];
 static uint8_t whole[CHAMANZIL_STREAM];
 static uint8_t read_block[CHAMANZIL_BLOCK];
 static uint8_t read_main[CHAMANZIL_MAIN];
+static uint8_t run[2 * CHAMANZIL_BLOCK_STREAM + CHAMANZIL_CLOSING];
 
 static void expect(bool holds, const char *what)
 {
     if (!holds) {
         fprintf(stderr, "FAILED: %s\n", what);
         exit(1);
+    }
+}
+
+/* Main data, others for each k. */
+static void fill_main(size_t k)
+{
+    size_t i;
+    for (i = 0; i < sizeof main_data; i++) {
+        main_data[i] = (uint8_t)(i * (2 * k + 7) + i / 256);
     }
 }
 
@@ -28,7 +38,7 @@ static void format(uint32_t first, uint8_t info)
     size_t k;
     chamanzil_new_record(&kept);
     expect(kept.state == 1 && kept.level == 0 && kept.dsv == 0 && kept.sectors == 0 && !kept.closed, "a new record");
-    expect(chamanzil_encode_block(main_data, sizeof main_data, first, info, block, sizeof block) == CHAMANZIL_DONE, "encode_block");
+    expect(chamanzil_encode_block(main_data, sizeof main_data, false, 0, first, info, block, sizeof block) == CHAMANZIL_DONE, "encode_block");
     for (k = 0; k < CHAMANZIL_SECTORS; k++) {
         uint32_t answer = chamanzil_write_sector(&kept, block + k * CHAMANZIL_SECTOR, CHAMANZIL_SECTOR, stream + k * CHAMANZIL_SECTOR_STREAM, CHAMANZIL_SECTOR_STREAM);
         expect(answer == CHAMANZIL_DONE && kept.sectors == k + 1, "write_sector");
@@ -38,17 +48,61 @@ static void format(uint32_t first, uint8_t info)
     expect(chamanzil_close(&kept, stream + CHAMANZIL_SECTORS * CHAMANZIL_SECTOR_STREAM, CHAMANZIL_CLOSING) == CHAMANZIL_ENDED, "closing twice");
 }
 
+/* A refusal leaves everything as it was. */
+static void be_refused(void)
+{
+    uint32_t report[CHAMANZIL_BLOCK_REPORT] = {7, 7, 7, 7, 7, 7, 7, 7};
+    uint32_t answer;
+    memset(read_main, 165, sizeof read_main);
+    answer = chamanzil_read_block(stream, sizeof stream - 1, read_block, sizeof read_block, read_main, sizeof read_main, report, CHAMANZIL_BLOCK_REPORT);
+    expect(answer == CHAMANZIL_LENGTH && read_main[0] == 165 && report[0] == 7, "another length of stream");
+    expect(chamanzil_encode_block(main_data, sizeof main_data, false, 0, 8, 0, block, sizeof block) == CHAMANZIL_NUMBER, "first number 8");
+}
+
+/* Two blocks that follow on, and the closing code after the second. */
+static void write_run(uint32_t first)
+{
+    struct chamanzil_record kept = {0, 0, 0, 0, false};
+    uint8_t *second = run + CHAMANZIL_BLOCK_STREAM;
+    uint8_t *closing = run + 2 * CHAMANZIL_BLOCK_STREAM;
+    uint32_t answer;
+    chamanzil_new_record(&kept);
+    fill_main(0);
+    answer = chamanzil_write_block(&kept, false, 0, main_data, sizeof main_data, first, 0x00, run, CHAMANZIL_BLOCK_STREAM);
+    expect(answer == CHAMANZIL_DONE && kept.sectors == CHAMANZIL_SECTORS, "the first block of a run");
+    fill_main(1);
+    answer = chamanzil_write_block(&kept, true, first, main_data, sizeof main_data, first, 0x00, second, CHAMANZIL_BLOCK_STREAM);
+    expect(answer == CHAMANZIL_SEQUENCE && kept.sectors == CHAMANZIL_SECTORS, "the same first number again");
+    answer = chamanzil_write_block(&kept, true, first, main_data, sizeof main_data, first + 16, 0x00, second, CHAMANZIL_BLOCK_STREAM);
+    expect(answer == CHAMANZIL_DONE && kept.sectors == 2 * CHAMANZIL_SECTORS, "the second block of a run");
+    expect(chamanzil_close(&kept, closing, CHAMANZIL_CLOSING) == CHAMANZIL_DONE && kept.closed, "closing a run of two blocks");
+}
+
+/* Each block of the run from its sectors and the four bytes after them, where the second one's code or the closing code stands. */
+static void read_run(uint32_t first)
+{
+    uint32_t report[CHAMANZIL_BLOCK_REPORT] = {0, 0, 0, 0, 0, 0, 0, 0};
+    size_t k;
+    for (k = 0; k < 2; k++) {
+        const uint8_t *part = run + k * CHAMANZIL_BLOCK_STREAM;
+        uint32_t answer = chamanzil_read_block(part, CHAMANZIL_STREAM, read_block, sizeof read_block, read_main, sizeof read_main, report, CHAMANZIL_BLOCK_REPORT);
+        fill_main(k);
+        expect(answer == CHAMANZIL_DONE && report[0] == first + 16 * k, "a block of the run");
+        expect(memcmp(read_main, main_data, sizeof main_data) == 0, "the main data of a block of the run");
+        expect(report[1] == 0 && report[5] == 0 && report[6] == 0, "a clean block of the run");
+        expect(chamanzil_zero_runs_hold(part, CHAMANZIL_STREAM) == 1, "the zero runs of a block of the run, seam included");
+    }
+}
+
 int main(void)
 {
     uint32_t report[CHAMANZIL_BLOCK_REPORT] = {0, 0, 0, 0, 0, 0, 0, 0};
     uint32_t answer;
     size_t i;
 
-    for (i = 0; i < sizeof main_data; i++) {
-        main_data[i] = (uint8_t)(i * 7 + i / 256);
-    }
+    fill_main(0);
     format(0x030000, 0x00);
-    expect(chamanzil_zero_runs_hold(stream, sizeof stream) == 1, "the runs of ZEROs");
+    expect(chamanzil_zero_runs_hold(stream, sizeof stream) == 1, "the zero runs");
     expect(chamanzil_format_block(main_data, sizeof main_data, 0x030000, 0x00, whole, sizeof whole) == CHAMANZIL_DONE, "format_block");
     expect(memcmp(whole, stream, sizeof whole) == 0, "format_block is encode_block, write_sector and close");
 
@@ -64,13 +118,10 @@ int main(void)
     expect(memcmp(read_main, main_data, sizeof main_data) == 0, "the main data read");
     expect(report[0] == 0x030000, "the first number");
 
-    /* a refusal leaves everything as it was */
-    memset(read_main, 165, sizeof read_main);
-    answer = chamanzil_read_block(stream, sizeof stream - 1, read_block, sizeof read_block, read_main, sizeof read_main, report, CHAMANZIL_BLOCK_REPORT);
-    expect(answer == CHAMANZIL_LENGTH && read_main[0] == 165, "another length of stream");
-    expect(chamanzil_encode_block(main_data, sizeof main_data, 8, 0, block, sizeof block) == CHAMANZIL_NUMBER, "first number 8");
-
-    printf("block %06lX rows %lu %lu columns %lu %lu unknown %lu sync %lu: main data read back\n", (unsigned long)report[0], (unsigned long)report[1],
-        (unsigned long)report[2], (unsigned long)report[3], (unsigned long)report[4], (unsigned long)report[5], (unsigned long)report[6]);
+    be_refused();
+    write_run(0x02FFF0);
+    read_run(0x02FFF0);
+    printf("block %06lX rows %lu %lu columns %lu %lu unknown %lu sync %lu: main data read back; a run of two blocks too\n", (unsigned long)report[0],
+        (unsigned long)report[1], (unsigned long)report[2], (unsigned long)report[3], (unsigned long)report[4], (unsigned long)report[5], (unsigned long)report[6]);
     return 0;
 }

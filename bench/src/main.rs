@@ -25,14 +25,23 @@ use writing::{Record, LAID, SECTOR};
 
 const MAIN: usize = 32_768;
 const BLOCK: usize = 37_856;
+const BLOCK_STREAM: usize = 16 * LAID;
 const STREAM: usize = 77_380;
 const FIRST: u32 = 0x030000;
 
 fn encode(main: &[u8], block: &mut [u8]) {
-    assert_eq!(library::encode_block(main, FIRST, 0, block), 0);
+    assert_eq!(library::encode_block(main, None, FIRST, 0, block), 0);
 }
 
-/// The sectors from the record of a new block, and the closing code after the sixteenth.
+/// Block k of a run, the block maker and sixteen sectors, from the record that the block before left; the record after it.
+fn write_block(main: &[u8], k: u32, after: Record, stream: &mut [u8]) -> Record {
+    let mut record = after;
+    let (previous, first) = (k.checked_sub(1).map(|before| FIRST + 16 * before), FIRST + 16 * k);
+    assert_eq!(library::write_block(&mut record, previous, main, first, 0, &mut stream[..BLOCK_STREAM]), 0);
+    record
+}
+
+/// The sectors from the record of a new run, and the closing code after the sixteenth.
 fn write(block: &[u8], stream: &mut [u8]) {
     let mut record = Record::start();
     for (bytes, laid) in block.chunks(SECTOR).zip(stream.chunks_mut(LAID)) {
@@ -78,6 +87,13 @@ impl Bench {
             block,
             stream,
         }
+    }
+
+    /// The record after the first block of a run.
+    fn first_block(&mut self) -> Record {
+        let record = write_block(&self.main, 0, Record::start(), &mut self.laid);
+        assert!(self.laid[..BLOCK_STREAM] == self.stream[..BLOCK_STREAM], "a block of a run differs");
+        record
     }
 
     fn repair(&mut self) {
@@ -133,6 +149,9 @@ fn table(b: &mut Bench, random: &mut Random) {
     assert!(b.work == b.block, "a parity differs");
     line("block maker", ours, Some(("parity", theirs)));
     line("sector writer and closing", seconds(b, |b| write(&b.block, &mut b.laid)), None);
+    let after = b.first_block();
+    let second_block = |b: &mut Bench| assert_eq!(write_block(&b.main, 1, after, &mut b.laid).sectors, 32);
+    line("block of a run: maker and sixteen sectors", seconds(b, second_block), None);
     line("sector reader, clean stream", seconds(b, |b| read_sectors(&b.stream, &mut b.work)), None);
     let [ours, theirs] = b.repairs();
     line("repair, clean block", ours, Some(("decoding", theirs)));
@@ -160,8 +179,8 @@ fn growth(b: &mut Bench, random: &mut Random) {
         println!("| {n} | {:.0} | {:.0} |", 1e6 * writer, 1e6 * reader);
     }
     println!();
-    println!("| blocks | maker, ms | whole chain, ms |");
-    println!("|---|---|---|");
+    println!("| blocks | maker, ms | whole chain, ms | written as a run, ms |");
+    println!("|---|---|---|---|");
     for n in [1, 4, 16, 64, 256] {
         let mains: Vec<Vec<u8>> = (0..n).map(|_| random.bytes(MAIN)).collect();
         let mut blocks = vec![vec![0; BLOCK]; n];
@@ -172,8 +191,14 @@ fn growth(b: &mut Bench, random: &mut Random) {
         blocks.iter().zip(&mut streams).for_each(|(k, s)| write(k, s));
         let start = std::time::Instant::now();
         streams.iter().for_each(|s| b.read(s));
-        println!("| {n} | {:.2} | {:.2} |", 1e3 * maker, 1e3 * start.elapsed().as_secs_f64());
+        let chain = start.elapsed().as_secs_f64();
         assert!(b.out == mains[n - 1]);
+        let start = std::time::Instant::now();
+        let blocks_of_run = mains.iter().zip(&mut streams).zip(0..);
+        let last = blocks_of_run.fold(Record::start(), |record, ((m, s), k)| write_block(m, k, record, s));
+        let run = start.elapsed().as_secs_f64();
+        assert_eq!(last.sectors as usize, 16 * n);
+        println!("| {n} | {:.2} | {:.2} | {:.2} |", 1e3 * maker, 1e3 * chain, 1e3 * run);
     }
 }
 

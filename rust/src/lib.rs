@@ -13,11 +13,15 @@
 //! assert_eq!(read.first, 0x03_0000);
 //! # Ok::<(), chamanzil::Refusal>(())
 //! ```
+//!
+//! Blocks that follow on are a run, which a [`Writer`] writes: 77,376 bytes a block, and the closing code after the last. Block k is read from the 77,380 bytes at
+//! 77,376 k: its sectors and the four bytes after them.
 #[doc(hidden)]
 pub mod raw;
 mod refusal;
 pub mod slices;
 mod words;
+mod writer;
 
 use std::fmt;
 
@@ -26,6 +30,7 @@ pub use words::{
     column_parity, correct_column, correct_row, ied, power, product, read_word, row_parity,
     zero_runs_hold, Outcome,
 };
+pub use writer::{Record, Writer};
 
 /// Main data bytes of a block: 16 sectors of 2,048.
 pub const MAIN: usize = 32_768;
@@ -39,8 +44,12 @@ pub const SECTOR_STREAM: usize = 4_836;
 pub const SECTOR_READ: usize = 4_838;
 /// Bytes of the closing code.
 pub const CLOSING: usize = 4;
-/// Bytes of a block's stream: 16 sectors and the closing code.
+/// Bytes of a block in a run's stream: 16 sectors.
+pub const BLOCK_STREAM: usize = 77_376;
+/// Bytes that a block is read from: 16 sectors and the four bytes after them, the closing code or the next block's SYNC Code.
 pub const STREAM: usize = 77_380;
+/// The most sectors of a run.
+pub const RUN_SECTORS: u32 = 16_777_216;
 /// Bytes of a row without its parity.
 pub const ROW_DATA: usize = 172;
 /// Bytes of a row's parity.
@@ -69,25 +78,33 @@ fn room<const N: usize>() -> Box<[u8; N]> {
         .expect("the length is N")
 }
 
-/// The block maker (clauses 16 to 19): main data, the number of the first sector and the Sector Information byte to a block in recording order.
+/// The block maker (clauses 16 to 19): main data, the number of the first sector and the Sector Information byte to a block in recording order. `previous` is the
+/// first number of the block before, which this one has to follow, or none where a run begins.
 ///
 /// ```
 /// use chamanzil::{encode_block, Refusal, MAIN};
-/// let block = encode_block(&[0; MAIN], 0x03_0000, 0x00)?;
+/// let block = encode_block(&[0; MAIN], None, 0x03_0000, 0x00)?;
 /// assert_eq!(block[..6], [0x00, 0x03, 0x00, 0x00, 0x11, 0x12]); // ID and IED of the first frame
-/// assert_eq!(encode_block(&[0; MAIN], 0, 0x02), Err(Refusal::Information));
+/// assert_eq!(encode_block(&[0; MAIN], Some(0x02_FFF0), 0x03_0000, 0x00)?, block);
+/// assert_eq!(encode_block(&[0; MAIN], Some(0x03_0000), 0x03_0000, 0x00), Err(Refusal::Sequence));
+/// assert_eq!(encode_block(&[0; MAIN], None, 0, 0x02), Err(Refusal::Information));
 /// # Ok::<(), Refusal>(())
 /// ```
 ///
 /// # Errors
-/// 2 or 3.
-pub fn encode_block(main: &[u8; MAIN], first: u32, info: u8) -> Result<Box<[u8; BLOCK]>, Refusal> {
+/// 2, 3 or 10.
+pub fn encode_block(
+    main: &[u8; MAIN],
+    previous: Option<u32>,
+    first: u32,
+    info: u8,
+) -> Result<Box<[u8; BLOCK]>, Refusal> {
     let mut out = room();
-    slices::encode_block(main, first, info, &mut out[..])?;
+    slices::encode_block(main, previous, first, info, &mut out[..])?;
     Ok(out)
 }
 
-/// The formatter: the block maker, then the writer from a new record. Sixteen sectors and the closing code.
+/// The formatter: the run of one block, by the block maker and the writer from a new record. Sixteen sectors and the closing code.
 ///
 /// ```
 /// use chamanzil::{format_block, Refusal, MAIN};
@@ -101,123 +118,6 @@ pub fn format_block(main: &[u8; MAIN], first: u32, info: u8) -> Result<Box<[u8; 
     let mut out = room();
     slices::format_block(main, first, info, &mut out[..])?;
     Ok(out)
-}
-
-/// The writer's record: the State prescribed next, the NRZI level, the DSV, the sectors written, and whether the closing code is written.
-/// It lies in memory as `crates/writer` and C have it.
-#[repr(C)]
-#[derive(Clone, Copy, Debug, PartialEq, Eq, Hash)]
-pub struct Record {
-    /// 1 to 4.
-    pub state: u8,
-    /// 0 or 1.
-    pub level: u8,
-    /// The Digital Sum Value so far.
-    pub dsv: i64,
-    /// 0 to 16.
-    pub sectors: u32,
-    /// Whether the closing code is written.
-    pub closed: bool,
-}
-
-impl Record {
-    /// The record before the first sector.
-    #[must_use]
-    pub const fn new() -> Self {
-        Record {
-            state: 1,
-            level: 0,
-            dsv: 0,
-            sectors: 0,
-            closed: false,
-        }
-    }
-}
-
-impl Default for Record {
-    fn default() -> Self {
-        Self::new()
-    }
-}
-
-/// The writer (clause 22). A call takes it by value and hands back the next one; a refusal leaves the caller's own as it was.
-///
-/// ```
-/// use chamanzil::{encode_block, format_block, Refusal, Writer, CLOSING, MAIN, SECTOR, SECTOR_STREAM};
-/// let block = encode_block(&[0; MAIN], 0, 0)?;
-/// let mut writer = Writer::new();
-/// let mut stream = Vec::new();
-/// for sector in block.chunks_exact(SECTOR) {
-///     let mut out = [0; SECTOR_STREAM];
-///     writer = writer.write_sector(sector.try_into().unwrap(), &mut out)?;
-///     stream.extend_from_slice(&out);
-/// }
-/// let mut out = [0; CLOSING];
-/// writer = writer.close(&mut out)?;
-/// stream.extend_from_slice(&out);
-/// assert_eq!(stream, format_block(&[0; MAIN], 0, 0)?[..]);
-/// assert_eq!(writer.close(&mut out), Err(Refusal::RunEnded));
-/// # Ok::<(), Refusal>(())
-/// ```
-#[derive(Clone, Copy, Debug, Default, PartialEq, Eq, Hash)]
-pub struct Writer {
-    record: Record,
-}
-
-impl Writer {
-    /// At the start of a block.
-    ///
-    /// ```
-    /// assert_eq!(chamanzil::Writer::new().record(), chamanzil::Record::new());
-    /// ```
-    #[must_use]
-    pub const fn new() -> Self {
-        Writer {
-            record: Record::new(),
-        }
-    }
-
-    /// From a record that was kept. A record that no writer hands out is refused with number 9 by the next call.
-    ///
-    /// ```
-    /// use chamanzil::{Record, Refusal, Writer};
-    /// let writer = Writer::from_record(Record { state: 5, ..Record::new() });
-    /// assert_eq!(writer.close(&mut [0; 4]), Err(Refusal::Record));
-    /// ```
-    #[must_use]
-    pub const fn from_record(record: Record) -> Self {
-        Writer { record }
-    }
-
-    /// The record.
-    #[must_use]
-    pub const fn record(self) -> Record {
-        self.record
-    }
-
-    /// A sector of a block, by the two-stream rule.
-    ///
-    /// # Errors
-    /// 9 or 7, with `out` as it was.
-    pub fn write_sector(
-        self,
-        bytes: &[u8; SECTOR],
-        out: &mut [u8; SECTOR_STREAM],
-    ) -> Result<Self, Refusal> {
-        let mut record = self.record;
-        slices::write_sector(&mut record, bytes, out)?;
-        Ok(Writer { record })
-    }
-
-    /// The closing code after the sixteenth sector.
-    ///
-    /// # Errors
-    /// 9, 7 or 8, with `out` as it was.
-    pub fn close(self, out: &mut [u8; CLOSING]) -> Result<Self, Refusal> {
-        let mut record = self.record;
-        slices::close(&mut record, out)?;
-        Ok(Writer { record })
-    }
 }
 
 /// What the sector reader reads.
@@ -237,7 +137,7 @@ pub struct SectorRead {
 /// use chamanzil::{encode_block, format_block, read_sector, MAIN, SECTOR, SECTOR_READ};
 /// let stream = format_block(&[0; MAIN], 0, 0)?;
 /// let read = read_sector(stream[..SECTOR_READ].try_into().unwrap());
-/// assert_eq!(read.bytes[..], encode_block(&[0; MAIN], 0, 0)?[..SECTOR]);
+/// assert_eq!(read.bytes[..], encode_block(&[0; MAIN], None, 0, 0)?[..SECTOR]);
 /// assert_eq!((read.unknown, read.sync), (0, 0));
 /// # Ok::<(), chamanzil::Refusal>(())
 /// ```
@@ -280,7 +180,7 @@ pub struct Repaired {
 ///
 /// ```
 /// use chamanzil::{encode_block, repair_block, MAIN};
-/// let mut block = encode_block(&[1; MAIN], 16, 0)?;
+/// let mut block = encode_block(&[1; MAIN], None, 16, 0)?;
 /// block[..5].fill(255);
 /// let repaired = repair_block(&mut block)?;
 /// assert_eq!(*repaired.main, [1; MAIN]);
@@ -339,7 +239,8 @@ impl fmt::Display for BlockRead {
     }
 }
 
-/// The whole-block reader: sixteen sectors, then the repairer.
+/// The whole-block reader: sixteen sectors, then the repairer. The four bytes after the sectors, by which the last word is judged, are the closing code or the next
+/// block's SYNC Code.
 ///
 /// ```
 /// use chamanzil::{format_block, read_block, MAIN};

@@ -30,6 +30,8 @@ extern "C" {
     pub fn chamanzil_encode_block(
         main: *const u8,
         main_len: usize,
+        follows: bool,
+        previous: u32,
         first: u32,
         info: u8,
         out: *mut u8,
@@ -48,6 +50,17 @@ extern "C" {
         kept: *mut Record,
         bytes: *const u8,
         bytes_len: usize,
+        out: *mut u8,
+        out_len: usize,
+    ) -> u32;
+    pub fn chamanzil_write_block(
+        kept: *mut Record,
+        follows: bool,
+        previous: u32,
+        main: *const u8,
+        main_len: usize,
+        first: u32,
+        info: u8,
         out: *mut u8,
         out_len: usize,
     ) -> u32;

@@ -1,11 +1,11 @@
 use std::error::Error;
 use std::fmt;
 
-/// What a call refuses, by document 01's numbers 1 to 9.
+/// What a call refuses, by the numbers of documents 01 and 02, 1 to 10.
 ///
 /// ```
 /// use chamanzil::{encode_block, Refusal, MAIN};
-/// let refusal = encode_block(&[0; MAIN], 8, 0).unwrap_err();
+/// let refusal = encode_block(&[0; MAIN], None, 8, 0).unwrap_err();
 /// assert_eq!(refusal, Refusal::FirstNumber);
 /// assert_eq!(refusal.number(), 2);
 /// assert_eq!(refusal.frame(), None);
@@ -34,16 +34,18 @@ pub enum Refusal {
         /// The first frame that fails.
         frame: u8,
     },
-    /// 7: a sector after the sixteenth, or anything after closing.
+    /// 7: a sector after number 16,777,216 of the run, or anything after closing.
     RunEnded,
-    /// 8: closing before the sixteenth sector.
+    /// 8: closing at no sectors, or at a count that is no multiple of 16.
     RunUnfinished,
     /// 9: a record that the writer never hands out.
     Record,
+    /// 10: the first number is not the previous block's first number plus 16.
+    Sequence,
 }
 
 impl Refusal {
-    /// Document 01's number.
+    /// The papers' number.
     #[must_use]
     pub fn number(self) -> u8 {
         match self {
@@ -56,6 +58,7 @@ impl Refusal {
             Refusal::RunEnded => 7,
             Refusal::RunUnfinished => 8,
             Refusal::Record => 9,
+            Refusal::Sequence => 10,
         }
     }
 
@@ -82,9 +85,14 @@ impl fmt::Display for Refusal {
             Refusal::Ied { .. } => ": the frame's IED differs",
             Refusal::Id { .. } => ": the frame's number or Information is not the one due",
             Refusal::Edc { .. } => ": the frame's EDC differs",
-            Refusal::RunEnded => ": all sixteen sectors or the closing code are written",
-            Refusal::RunUnfinished => ": closing before the sixteenth sector",
+            Refusal::RunEnded => {
+                ": a sector after number 16,777,216 of the run, or anything after closing"
+            }
+            Refusal::RunUnfinished => {
+                ": closing at no sectors, or at a count that is no multiple of 16"
+            }
             Refusal::Record => ": the writer never hands out this record",
+            Refusal::Sequence => ": the first number is not the previous block's plus 16",
         })
     }
 }
@@ -105,6 +113,7 @@ pub(crate) fn answer(number: u32, frame: u32) -> Result<(), Refusal> {
         7 => Err(Refusal::RunEnded),
         8 => Err(Refusal::RunUnfinished),
         9 => Err(Refusal::Record),
+        10 => Err(Refusal::Sequence),
         other => unreachable!("no contract of crates/ffi gives {other}"),
     }
 }

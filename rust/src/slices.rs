@@ -3,26 +3,55 @@
 //! ```
 //! use chamanzil::{slices, Refusal, BLOCK, MAIN};
 //! let (main, mut block) = (vec![0; MAIN], vec![165; BLOCK]);
-//! assert_eq!(slices::encode_block(&main[1..], 0, 0, &mut block), Err(Refusal::Length));
+//! assert_eq!(slices::encode_block(&main[1..], None, 0, 0, &mut block), Err(Refusal::Length));
 //! assert_eq!(block, vec![165; BLOCK]);
-//! assert_eq!(slices::encode_block(&main, 0, 0, &mut block), Ok(()));
+//! assert_eq!(slices::encode_block(&main, None, 0, 0, &mut block), Ok(()));
 //! ```
 use crate::raw;
 use crate::refusal::answer;
 use crate::{Record, Refusal};
 
-/// The block maker: 32,768 main data bytes to a block of 37,856.
+/// Whether a block comes before, and its first number, which counts only then.
+fn block_before(previous: Option<u32>) -> (bool, u32) {
+    (previous.is_some(), previous.unwrap_or(0))
+}
+
+/// The block maker: 32,768 main data bytes to a block of 37,856. `previous` is the first number of the block before, none where a run begins.
+///
+/// ```
+/// use chamanzil::{slices, Refusal, BLOCK, MAIN};
+/// let (main, mut block) = (vec![0; MAIN], vec![165; BLOCK]);
+/// assert_eq!(slices::encode_block(&main, Some(0), 32, 0, &mut block), Err(Refusal::Sequence));
+/// assert_eq!(block, vec![165; BLOCK]);
+/// assert_eq!(slices::encode_block(&main, Some(0), 16, 0, &mut block), Ok(()));
+/// ```
 ///
 /// # Errors
-/// 1, 2 or 3, with `out` as it was.
-pub fn encode_block(main: &[u8], first: u32, info: u8, out: &mut [u8]) -> Result<(), Refusal> {
-    let (to, size) = (out.as_mut_ptr(), out.len());
-    let number =
-        unsafe { raw::chamanzil_encode_block(main.as_ptr(), main.len(), first, info, to, size) };
+/// 1, 2, 3 or 10, with `out` as it was.
+pub fn encode_block(
+    main: &[u8],
+    previous: Option<u32>,
+    first: u32,
+    info: u8,
+    out: &mut [u8],
+) -> Result<(), Refusal> {
+    let (follows, before) = block_before(previous);
+    let number = unsafe {
+        raw::chamanzil_encode_block(
+            main.as_ptr(),
+            main.len(),
+            follows,
+            before,
+            first,
+            info,
+            out.as_mut_ptr(),
+            out.len(),
+        )
+    };
     answer(number, 0)
 }
 
-/// The formatter: 32,768 main data bytes to a stream of 77,380.
+/// The formatter: 32,768 main data bytes to a stream of 77,380, the run of one block.
 ///
 /// # Errors
 /// 1, 2 or 3, with `out` as it was.
@@ -44,7 +73,48 @@ pub fn write_sector(record: &mut Record, bytes: &[u8], out: &mut [u8]) -> Result
     answer(number, 0)
 }
 
-/// The closing code, 4 bytes. `record` becomes the next one.
+/// A whole block of a run: the block maker, then the writer's sixteen sectors. 32,768 main data bytes to 77,376. `previous` is the first number of the block before,
+/// none where the run begins. `record` becomes the one after the sixteenth of these sectors.
+///
+/// ```
+/// use chamanzil::{slices, Record, Refusal, BLOCK_STREAM, MAIN};
+/// let (main, mut stream, mut record) = (vec![0; MAIN], vec![0; 2 * BLOCK_STREAM], Record::new());
+/// let (one, two) = stream.split_at_mut(BLOCK_STREAM);
+/// slices::write_block(&mut record, None, &main, 0, 0, one)?;
+/// slices::write_block(&mut record, Some(0), &main, 16, 0, two)?;
+/// assert_eq!(record.sectors, 32);
+/// assert_eq!(slices::write_block(&mut record, Some(16), &main, 16, 0, two), Err(Refusal::Sequence));
+/// # Ok::<(), Refusal>(())
+/// ```
+///
+/// # Errors
+/// 1, 2, 3, 10, 9 or 7, with `record` and `out` as they were.
+pub fn write_block(
+    record: &mut Record,
+    previous: Option<u32>,
+    main: &[u8],
+    first: u32,
+    info: u8,
+    out: &mut [u8],
+) -> Result<(), Refusal> {
+    let (follows, before) = block_before(previous);
+    let number = unsafe {
+        raw::chamanzil_write_block(
+            record,
+            follows,
+            before,
+            main.as_ptr(),
+            main.len(),
+            first,
+            info,
+            out.as_mut_ptr(),
+            out.len(),
+        )
+    };
+    answer(number, 0)
+}
+
+/// The closing code after the last block of a run, 4 bytes. `record` becomes the next one.
 ///
 /// # Errors
 /// 1, 9, 7 or 8, with `record` and `out` as they were.
@@ -92,7 +162,7 @@ pub fn repair_block(block: &mut [u8], main: &mut [u8], report: &mut [u32]) -> Re
     answer(number, report.last().copied().unwrap_or(0))
 }
 
-/// The whole-block reader: 77,380 bytes of stream to a block of 37,856, as the repairer leaves it, and 32,768 main data bytes. `report` has eight numbers: the
+/// The whole-block reader: 77,380 bytes of stream, the last four a closing code or the next block's SYNC Code, to a block of 37,856, as the repairer leaves it, and 32,768 main data bytes. `report` has eight numbers: the
 /// repairer's, with the sums of the two sector tallies before the frame.
 ///
 /// # Errors

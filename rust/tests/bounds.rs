@@ -4,10 +4,15 @@ mod common;
 
 use chamanzil::slices;
 use chamanzil::{Record, Refusal};
-use chamanzil::{BLOCK, CLOSING, MAIN, SECTOR, SECTOR_READ, SECTOR_STREAM, STREAM};
+use chamanzil::{
+    BLOCK, BLOCK_STREAM, CLOSING, MAIN, RUN_SECTORS, SECTOR, SECTOR_READ, SECTOR_STREAM, STREAM,
+};
 use common::Numbers;
 use std::env;
 use std::fmt::Debug;
+
+/// Sectors of a block.
+const BLOCK_SECTORS: u32 = 16;
 
 fn guard() -> usize {
     if env::var_os("CHAMANZIL_EXACT").is_some() {
@@ -132,7 +137,7 @@ fn encode_and_format() {
     let sizes = [MAIN, BLOCK];
     sweep(&sizes, |b| {
         let [main, out] = b else { unreachable!() };
-        slices::encode_block(main.lend(), 16, 0, out.lend())
+        slices::encode_block(main.lend(), None, 16, 0, out.lend())
     });
     let sizes = [MAIN, STREAM];
     sweep(&sizes, |b| {
@@ -145,12 +150,49 @@ fn encode_and_format() {
         };
         let first = u32::try_from(numbers.next() & 0x01FF_FFF8).unwrap();
         let info = numbers.byte() & 0x3D;
-        let answer = slices::encode_block(main.lend(), first, info, block.lend());
+        let answer = slices::encode_block(main.lend(), None, first, info, block.lend());
         assert_eq!(
             slices::format_block(main.lend(), first, info, stream.lend()),
             answer
         );
+        let previous = Some(first.wrapping_sub(16));
+        assert_eq!(
+            slices::encode_block(main.lend(), previous, first, info, block.lend()),
+            if first == 0 {
+                Err(Refusal::Sequence)
+            } else {
+                answer
+            }
+        );
     });
+}
+
+#[test]
+fn write_block() {
+    let mut record = Record::new();
+    sweep(&[MAIN, BLOCK_STREAM], |b| {
+        let [main, out] = b else { unreachable!() };
+        slices::write_block(&mut record, Some(0), main.lend(), 16, 0, out.lend())
+    });
+    assert_eq!(record, Record::new());
+    rounds(
+        if stride() == 1 { 500 } else { 20 },
+        &[MAIN, BLOCK_STREAM],
+        |b, _, numbers| {
+            let [main, out] = b else { unreachable!() };
+            let old = any_record(numbers);
+            let mut written = old;
+            let was = out.lend().to_vec();
+            let answer = slices::write_block(&mut written, None, main.lend(), 16, 0, out.lend())
+                .map_or_else(Refusal::number, |()| 0);
+            assert_eq!(answer, due(old, BLOCK_SECTORS), "{old:?}");
+            if answer == 0 {
+                assert_eq!(written.sectors, old.sectors + BLOCK_SECTORS);
+            } else {
+                assert!(written == old && out.lend() == was, "{old:?}");
+            }
+        },
+    );
 }
 
 #[test]
@@ -242,24 +284,38 @@ fn rows_columns_and_words() {
     }
 }
 
-/// Document 01's numbers 9, 7 and 8 for a sector and for closing, from the record alone.
-fn due(r: Record) -> (u8, u8) {
+/// Whether a run may be closed after so many sectors.
+fn closes(sectors: u32) -> bool {
+    sectors > 0 && sectors % BLOCK_SECTORS == 0
+}
+
+/// The papers' numbers 9 and 7 for so many sectors more, from the record alone.
+fn due(r: Record, count: u32) -> u8 {
     let limit = 38_688 * i128::from(r.sectors) + if r.closed { 32 } else { 0 };
     let sound = (1..=4).contains(&r.state)
         && r.level <= 1
-        && r.sectors <= 16
-        && !(r.closed && r.sectors < 16)
+        && r.sectors <= RUN_SECTORS
+        && (!r.closed || closes(r.sectors))
         && i128::from(r.dsv).abs() <= limit;
-    match (sound, r.closed, r.sectors >= 16) {
-        (false, _, _) => (9, 9),
-        (true, true, _) => (7, 7),
-        (true, false, true) => (7, 0),
-        (true, false, false) => (0, 8),
+    let fits = u64::from(r.sectors) + u64::from(count) <= u64::from(RUN_SECTORS);
+    match (sound, r.closed || !fits) {
+        (false, _) => 9,
+        (true, true) => 7,
+        (true, false) => 0,
+    }
+}
+
+/// Those of closing, with 8.
+fn due_closing(r: Record) -> u8 {
+    match due(r, 0) {
+        0 if !closes(r.sectors) => 8,
+        number => number,
     }
 }
 
 fn any_record(numbers: &mut Numbers) -> Record {
-    let sectors = u32::try_from(numbers.below(18)).unwrap();
+    let few = u32::try_from(numbers.below(40)).unwrap();
+    let sectors = [few, few, RUN_SECTORS - 34 + few, u32::MAX][numbers.below(4)];
     let edge = 38_688 * i64::from(sectors);
     let dsv = match numbers.below(6) {
         0 => 0,
@@ -270,14 +326,10 @@ fn any_record(numbers: &mut Numbers) -> Record {
         _ => i64::try_from(numbers.below(400)).unwrap() - 200,
     };
     Record {
-        state: [1, 2, 3, 4, 0, 5, 255][numbers.below(7)],
+        state: [1, 2, 3, 4, 1, 2, 0, 5, 255][numbers.below(9)],
         level: [0, 1, 0, 1, 2, 255][numbers.below(6)],
         dsv,
-        sectors: if numbers.below(20) == 0 {
-            u32::MAX
-        } else {
-            sectors
-        },
+        sectors,
         closed: numbers.below(4) == 0,
     }
 }
@@ -304,7 +356,11 @@ fn records() {
                 .map_or_else(Refusal::number, |()| 0);
             let closing =
                 slices::close(&mut closed, four.lend()).map_or_else(Refusal::number, |()| 0);
-            assert_eq!((sector, closing), due(old), "{old:?}");
+            assert_eq!(
+                (sector, closing),
+                (due(old, 1), due_closing(old)),
+                "{old:?}"
+            );
             assert!(written == old || (sector == 0 && written.sectors == old.sectors + 1));
             assert!(closed == old || (closing == 0 && closed.closed));
         },

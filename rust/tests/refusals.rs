@@ -1,24 +1,24 @@
-//! Each of document 01's refusals 1 to 9, with every lent buffer compared before and after.
+//! Each of the papers' refusals 1 to 10, with every lent buffer and record compared before and after.
 mod common;
 
 use chamanzil::{encode_block, ied, slices, Record, Refusal, Writer};
-use chamanzil::{BLOCK, CLOSING, MAIN, SECTOR, SECTOR_READ, SECTOR_STREAM, STREAM};
-use common::{frame_place, main_data, stream_of, with_parity};
+use chamanzil::{
+    BLOCK, BLOCK_STREAM, CLOSING, MAIN, RUN_SECTORS, SECTOR, SECTOR_READ, SECTOR_STREAM, STREAM,
+};
+use common::{buffer, frame_place, main_data, stream_of, with_parity};
 
 const OLD: u8 = 165;
 
 #[test]
-fn length_1() {
-    let mut record = Record::new();
+fn length_1_of_maker_and_formatter() {
     let mut out = vec![OLD; STREAM + 1];
     let (main, long) = (vec![0; MAIN], vec![0; MAIN + 1]);
-    let mut two = [7; 2];
     assert_eq!(
-        slices::encode_block(&long, 0, 0, &mut out[..BLOCK]),
+        slices::encode_block(&long, None, 0, 0, &mut out[..BLOCK]),
         Err(Refusal::Length)
     );
     assert_eq!(
-        slices::encode_block(&main, 0, 0, &mut out[..BLOCK - 1]),
+        slices::encode_block(&main, None, 0, 0, &mut out[..BLOCK - 1]),
         Err(Refusal::Length)
     );
     assert_eq!(
@@ -29,6 +29,14 @@ fn length_1() {
         slices::format_block(&main, 0, 0, &mut out[..]),
         Err(Refusal::Length)
     );
+    assert_eq!(out, vec![OLD; STREAM + 1]);
+}
+
+#[test]
+fn length_1_of_the_writer() {
+    let mut record = Record::new();
+    let mut out = vec![OLD; STREAM + 1];
+    let (main, long) = (vec![0; MAIN], vec![0; MAIN + 1]);
     assert_eq!(
         slices::write_sector(&mut record, &main[..=SECTOR], &mut out[..SECTOR_STREAM]),
         Err(Refusal::Length)
@@ -38,9 +46,23 @@ fn length_1() {
         Err(Refusal::Length)
     );
     assert_eq!(
+        slices::write_block(&mut record, None, &long, 0, 0, &mut out[..BLOCK_STREAM]),
+        Err(Refusal::Length)
+    );
+    assert_eq!(
+        slices::write_block(&mut record, None, &main, 0, 0, &mut out[..STREAM]),
+        Err(Refusal::Length)
+    );
+    assert_eq!(
         slices::close(&mut record, &mut out[..=CLOSING]),
         Err(Refusal::Length)
     );
+    assert_eq!((record, out), (Record::new(), vec![OLD; STREAM + 1]));
+}
+
+#[test]
+fn length_1_of_sectors_and_words() {
+    let (main, mut out, mut two) = (vec![0; MAIN], vec![OLD; MAIN], [7; 2]);
     assert_eq!(
         slices::read_sector(&main[..SECTOR_READ - 1], &mut out[..SECTOR], &mut two),
         Err(Refusal::Length)
@@ -67,8 +89,7 @@ fn length_1() {
         slices::correct_column(&mut out[..207]),
         Err(Refusal::Length)
     );
-    assert_eq!(out, vec![OLD; STREAM + 1]);
-    assert_eq!((record, two), (Record::new(), [7; 2]));
+    assert_eq!((out, two), (vec![OLD; MAIN], [7; 2]));
 }
 
 #[test]
@@ -116,7 +137,7 @@ fn first_number_2_and_information_3() {
         u32::MAX - 15,
     ] {
         assert_eq!(
-            slices::encode_block(&main[..], first, 0xFF, &mut out),
+            slices::encode_block(&main[..], Some(first), first, 0xFF, &mut out),
             Err(Refusal::FirstNumber)
         );
         assert_eq!(
@@ -131,7 +152,10 @@ fn first_number_2_and_information_3() {
             Err(Refusal::Information)
         };
         if due.is_err() {
-            assert_eq!(slices::encode_block(&main[..], 16, info, &mut out), due);
+            assert_eq!(
+                slices::encode_block(&main[..], Some(16), 16, info, &mut out),
+                due
+            );
             assert_eq!(slices::format_block(&main[..], 16, info, &mut stream), due);
         }
     }
@@ -140,7 +164,7 @@ fn first_number_2_and_information_3() {
 
 /// A block with an edit in its frames and parity made anew, by the repairer and by the whole-block reader.
 fn judge(edit: impl Fn(&mut [u8; BLOCK]), due: Refusal) {
-    let mut block = encode_block(&main_data(2), 0x03_0000, 0).unwrap();
+    let mut block = encode_block(&main_data(2), None, 0x03_0000, 0).unwrap();
     edit(&mut block);
     with_parity(&mut block);
     let stream = stream_of(&block);
@@ -225,146 +249,237 @@ fn edc_6() {
     );
 }
 
-/// The answers to a sector and to closing from a record, with record and buffer as they were.
-fn state(record: Record, sector: Option<Refusal>, closing: Option<Refusal>) {
-    let bytes = [1; SECTOR];
-    let mut out = [OLD; SECTOR_STREAM];
-    let mut four = [OLD; CLOSING];
-    if let Some(due) = sector {
-        let mut r = record;
-        assert_eq!(slices::write_sector(&mut r, &bytes, &mut out), Err(due));
-        assert_eq!((r, out), (record, [OLD; SECTOR_STREAM]));
-        assert_eq!(
-            Writer::from_record(record).write_sector(&bytes, &mut out),
-            Err(due)
-        );
-        assert_eq!(out, [OLD; SECTOR_STREAM]);
+const SEQUENCE: Result<(), Refusal> = Err(Refusal::Sequence);
+
+/// The block maker's and the writer's answer to a block after another one, which leave buffer and record.
+fn after(previous: u32, first: u32) -> [Result<(), Refusal>; 2] {
+    let main = main_data(3);
+    let (mut block, mut stream) = (vec![OLD; BLOCK], vec![OLD; BLOCK_STREAM]);
+    let made = slices::encode_block(&main[..], Some(previous), first, 0, &mut block);
+    let mut record = Record::new();
+    let written = slices::write_block(
+        &mut record,
+        Some(previous),
+        &main[..],
+        first,
+        0,
+        &mut stream,
+    );
+    if made.is_err() {
+        assert_eq!(block, vec![OLD; BLOCK]);
     }
-    if let Some(due) = closing {
-        let mut r = record;
-        assert_eq!(slices::close(&mut r, &mut four), Err(due));
-        assert_eq!((r, four), (record, [OLD; CLOSING]));
+    if written.is_err() {
+        assert_eq!((record, stream), (Record::new(), vec![OLD; BLOCK_STREAM]));
     }
+    [made, written]
 }
 
 #[test]
-fn run_ended_7_and_unfinished_8() {
-    let full = Record {
-        sectors: 16,
+fn sequence_10() {
+    // the last three would follow if the sum were taken modulo 2^32 or 2^24
+    for (previous, first) in [
+        (0, 0),
+        (0, 32),
+        (16, 0),
+        (16, 16),
+        (1, 16),
+        (0x02_FFF0, 0x03_0010),
+        (0x03_0010, 0x03_0000),
+        (u32::MAX, 16),
+        (4_294_967_280, 0),
+        (16_777_200, 0),
+        (16_777_216, 16),
+    ] {
+        assert_eq!(after(previous, first), [SEQUENCE; 2], "{previous} {first}");
+        let writer = Writer::from_record(Record::new(), Some(previous));
+        let mut out = buffer::<BLOCK_STREAM>(OLD);
+        assert_eq!(
+            writer.write_block(&main_data(3), first, 0, &mut out),
+            Err(Refusal::Sequence)
+        );
+        assert_eq!(out, buffer(OLD));
+        let made = encode_block(&main_data(3), Some(previous), first, 0);
+        assert_eq!(made, Err(Refusal::Sequence));
+    }
+    for (previous, first) in [(0, 16), (0x02_FFF0, 0x03_0000), (16_777_184, 16_777_200)] {
+        assert_eq!(after(previous, first), [Ok(()); 2], "{previous} {first}");
+    }
+    // no block comes after the last number
+    let over = Err(Refusal::FirstNumber);
+    assert_eq!(after(16_777_200, 16_777_216), [over; 2]);
+    assert_eq!(after(4_294_967_264, 4_294_967_280), [over; 2]);
+}
+
+/// A call with reasons for several numbers: 1, 2, 3, 10 in the block maker; 9 and 7 after them in the call for a whole block of a run.
+#[test]
+fn order_with_10() {
+    let ended = Record {
+        sectors: RUN_SECTORS,
         ..Record::new()
     };
-    state(full, Some(Refusal::RunEnded), None);
-    state(
-        Record {
-            closed: true,
-            ..full
-        },
-        Some(Refusal::RunEnded),
-        Some(Refusal::RunEnded),
-    );
-    for sectors in 0..16 {
-        state(
-            Record { sectors, ..full },
-            None,
-            Some(Refusal::RunUnfinished),
+    let bad = Record { state: 0, ..ended };
+    for (due, record, previous, size, first, info) in [
+        (Refusal::Length, bad, 5, MAIN - 1, 8, 0xFF),
+        (Refusal::FirstNumber, bad, 5, MAIN, 8, 0xFF),
+        (Refusal::Information, bad, 5, MAIN, 16, 0xFF),
+        (Refusal::Sequence, bad, 5, MAIN, 16, 0),
+        (Refusal::Record, bad, 0, MAIN, 16, 0),
+        (Refusal::RunEnded, ended, 0, MAIN, 16, 0),
+    ] {
+        let (main, mut out, mut after) = (vec![1; size], vec![OLD; BLOCK_STREAM], record);
+        assert_eq!(
+            slices::write_block(&mut after, Some(previous), &main, first, info, &mut out),
+            Err(due)
+        );
+        assert_eq!((after, out), (record, vec![OLD; BLOCK_STREAM]));
+        let mut out = vec![OLD; BLOCK];
+        let made = slices::encode_block(&main, Some(previous), first, info, &mut out);
+        if previous == 0 {
+            assert_eq!(made, Ok(()));
+        } else {
+            assert_eq!((made, out), (Err(due), vec![OLD; BLOCK]));
+        }
+    }
+}
+
+/// A call's answer from a record. A refusal leaves record and buffer as they were.
+fn answer(
+    record: Record,
+    size: usize,
+    call: impl Fn(&mut Record, &mut [u8]) -> Result<(), Refusal>,
+) -> Result<(), Refusal> {
+    let (mut after, mut out) = (record, vec![OLD; size]);
+    let answer = call(&mut after, &mut out);
+    if answer.is_err() {
+        assert_eq!((after, out), (record, vec![OLD; size]));
+    } else {
+        assert_ne!(after, record);
+    }
+    answer
+}
+
+/// The answers to a sector, to a whole block and to closing from a record, by slices; the writer's are the same.
+fn answers(record: Record) -> [Result<(), Refusal>; 3] {
+    let (bytes, main) = ([1; SECTOR], buffer(1));
+    let all = [
+        answer(record, SECTOR_STREAM, |record, out| {
+            slices::write_sector(record, &bytes, out)
+        }),
+        answer(record, BLOCK_STREAM, |record, out| {
+            slices::write_block(record, None, &main[..], 16, 0, out)
+        }),
+        answer(record, CLOSING, slices::close),
+    ];
+    let writer = Writer::from_record(record, None);
+    let by_writer = [
+        writer.write_sector(&bytes, &mut [OLD; SECTOR_STREAM]),
+        writer.write_block(&main, 16, 0, &mut buffer(OLD)),
+        writer.close(&mut [OLD; CLOSING]),
+    ];
+    assert_eq!(by_writer.map(|answer| answer.map(|_| ())), all);
+    all
+}
+
+/// A record with so many sectors, open.
+fn open(sectors: u32) -> Record {
+    Record {
+        sectors,
+        ..Record::new()
+    }
+}
+
+fn closed(sectors: u32) -> Record {
+    Record {
+        closed: true,
+        ..open(sectors)
+    }
+}
+
+const DONE: Result<(), Refusal> = Ok(());
+const ENDED: Result<(), Refusal> = Err(Refusal::RunEnded);
+const UNFINISHED: Result<(), Refusal> = Err(Refusal::RunUnfinished);
+const BAD: [Result<(), Refusal>; 3] = [Err(Refusal::Record); 3];
+
+#[test]
+fn run_ended_7() {
+    for (sectors, due) in [
+        (RUN_SECTORS - 17, [DONE, DONE, UNFINISHED]),
+        (RUN_SECTORS - 16, [DONE, DONE, DONE]),
+        (RUN_SECTORS - 15, [DONE, ENDED, UNFINISHED]),
+        (RUN_SECTORS - 1, [DONE, ENDED, UNFINISHED]),
+        (RUN_SECTORS, [ENDED, ENDED, DONE]),
+    ] {
+        assert_eq!(answers(open(sectors)), due, "{sectors}");
+    }
+    for sectors in [16, 32, 160, RUN_SECTORS - 16, RUN_SECTORS] {
+        assert_eq!(answers(closed(sectors)), [ENDED; 3], "{sectors}");
+    }
+}
+
+/// Only closing looks at whole blocks: a sector or a block may follow at any count.
+#[test]
+fn run_unfinished_8() {
+    for sectors in (0..80).chain([8_388_600, 8_388_608, 8_388_609]) {
+        let is_whole = sectors > 0 && sectors % 16 == 0;
+        let closing = if is_whole { DONE } else { UNFINISHED };
+        assert_eq!(
+            answers(open(sectors)),
+            [DONE, DONE, closing],
+            "{sectors} sectors"
         );
     }
 }
 
 #[test]
 fn record_9() {
-    let full = Record {
-        sectors: 16,
-        ..Record::new()
-    };
-    let bad = Some(Refusal::Record);
-    for state_ in [0, 5, 255] {
-        state(
-            Record {
-                state: state_,
-                ..full
-            },
-            bad,
-            bad,
-        );
+    for state in [0, 5, 255] {
+        assert_eq!(answers(Record { state, ..open(16) }), BAD);
     }
-    state(Record { level: 2, ..full }, bad, bad);
-    state(
-        Record {
-            sectors: 17,
-            ..full
-        },
-        bad,
-        bad,
-    );
-    state(
-        Record {
-            sectors: 15,
-            closed: true,
-            ..full
-        },
-        bad,
-        bad,
-    );
-    state(
-        Record {
-            dsv: 1,
-            ..Record::new()
-        },
-        bad,
-        bad,
-    );
-    state(
-        Record {
-            dsv: 38_688 * 16 + 1,
-            ..full
-        },
-        bad,
-        bad,
-    );
-    state(
-        Record {
-            dsv: -38_688 * 16 - 1,
-            ..full
-        },
-        bad,
-        bad,
-    );
-    state(
-        Record {
-            dsv: 38_688 * 16 + 33,
-            closed: true,
-            ..full
-        },
-        bad,
-        bad,
-    );
-    state(
-        Record {
-            dsv: i64::MIN,
-            ..full
-        },
-        bad,
-        bad,
-    );
-    // at the edge it is no such record
-    state(
-        Record {
-            dsv: -38_688 * 16,
-            ..full
-        },
-        Some(Refusal::RunEnded),
-        None,
-    );
-    state(
-        Record {
-            dsv: 38_688 * 16 + 32,
-            closed: true,
-            ..full
-        },
-        Some(Refusal::RunEnded),
-        Some(Refusal::RunEnded),
-    );
+    for level in [2, 255] {
+        assert_eq!(answers(Record { level, ..open(16) }), BAD);
+    }
+    for sectors in [
+        RUN_SECTORS + 1,
+        RUN_SECTORS + 15,
+        RUN_SECTORS + 16,
+        u32::MAX,
+    ] {
+        assert_eq!(answers(open(sectors)), BAD);
+        assert_eq!(answers(closed(sectors)), BAD);
+    }
+    for sectors in [0, 1, 8, 15, 17, 24, RUN_SECTORS - 15, RUN_SECTORS - 1] {
+        assert_eq!(answers(closed(sectors)), BAD);
+    }
+}
+
+/// The DSV that a record may hold: 38,688 a sector, and 32 more after closing.
+#[test]
+fn record_9_by_dsv() {
+    for sectors in [0, 1, 16, 48, RUN_SECTORS - 16, RUN_SECTORS] {
+        let limit = 38_688 * i64::from(sectors);
+        for sign in [1, -1] {
+            let with = |record: Record, dsv: i64| answers(Record { dsv, ..record });
+            assert_eq!(
+                with(open(sectors), sign * limit),
+                answers(open(sectors)),
+                "{sectors}"
+            );
+            assert_eq!(with(open(sectors), sign * (limit + 1)), BAD, "{sectors}");
+            assert_eq!(with(closed(sectors), sign * (limit + 33)), BAD, "{sectors}");
+            if sectors % 16 == 0 && sectors > 0 {
+                assert_eq!(with(closed(sectors), sign * (limit + 32)), [ENDED; 3]);
+            }
+        }
+        for dsv in [i64::MIN, i64::MAX] {
+            assert_eq!(
+                answers(Record {
+                    dsv,
+                    ..open(sectors)
+                }),
+                BAD
+            );
+        }
+    }
 }
 
 #[test]
@@ -379,6 +494,7 @@ fn numbers_and_words() {
         Refusal::RunEnded,
         Refusal::RunUnfinished,
         Refusal::Record,
+        Refusal::Sequence,
     ];
     for (n, refusal) in (1..).zip(all) {
         assert_eq!(refusal.number(), n);
@@ -387,5 +503,17 @@ fn numbers_and_words() {
     assert_eq!(
         Refusal::Edc { frame: 3 }.to_string(),
         "refused 6 frame 3: the frame's EDC differs"
+    );
+    assert_eq!(
+        Refusal::RunEnded.to_string(),
+        "refused 7: a sector after number 16,777,216 of the run, or anything after closing"
+    );
+    assert_eq!(
+        Refusal::RunUnfinished.to_string(),
+        "refused 8: closing at no sectors, or at a count that is no multiple of 16"
+    );
+    assert_eq!(
+        Refusal::Sequence.to_string(),
+        "refused 10: the first number is not the previous block's plus 16"
     );
 }

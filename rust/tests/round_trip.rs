@@ -17,7 +17,7 @@ fn as_it_is() {
         (4, 16, 0x2C),
     ] {
         let main = main_data(seed);
-        let block = encode_block(&main, first, info).unwrap();
+        let block = encode_block(&main, None, first, info).unwrap();
         let stream = format_block(&main, first, info).unwrap();
         assert_eq!(stream, stream_of(&block));
         assert!(zero_runs_hold(&stream[..]));

@@ -1,9 +1,9 @@
 //! Blocks and streams of a second formatter, written from the papers alone: crates/trials/data and tests/data/vectors.
 mod common;
 
-use chamanzil::{encode_block, format_block, read_block, slices};
-use chamanzil::{BLOCK, MAIN, STREAM};
-use common::stream_of;
+use chamanzil::{encode_block, format_block, read_block, slices, Record, Writer};
+use chamanzil::{BLOCK, BLOCK_STREAM, CLOSING, MAIN, SECTOR, SECTOR_STREAM, STREAM};
+use common::{buffer, stream_of};
 use std::fs;
 use std::path::{Path, PathBuf};
 
@@ -33,7 +33,7 @@ fn blocks() {
         let main = bytes(&format!("crates/trials/data/{name}.main"));
         let block = bytes(&format!("crates/trials/data/{name}.block"));
         let stream = bytes(&format!("crates/trials/data/{name}.stream"));
-        assert_eq!(encode_block(&main, first, info).unwrap(), block);
+        assert_eq!(encode_block(&main, None, first, info).unwrap(), block);
         assert_eq!(format_block(&main, first, info).unwrap(), stream);
         assert_eq!(stream_of(&block), stream);
         assert_eq!(read_block(&stream).unwrap().main, main);
@@ -69,4 +69,108 @@ fn sheets() {
         lines += 1;
     }
     assert!(lines > 5);
+}
+
+/// A run of three blocks.
+const RUN: [u32; 3] = [0x02_FFE0, 0x02_FFF0, 0x03_0000];
+const RUN_INFORMATION: u8 = 0x25;
+
+fn run(name: &str) -> Vec<u8> {
+    fs::read(path(&format!("tests/data/vectors/run/{name}"))).unwrap()
+}
+
+fn run_mains() -> Vec<[u8; MAIN]> {
+    let all = run("run.main");
+    all.chunks(MAIN)
+        .map(|main| main.try_into().unwrap())
+        .collect()
+}
+
+/// The run's records after each sector and after closing: the first five words of a line (the others are of later requests).
+fn run_records() -> Vec<Record> {
+    let record = |line: &str| {
+        let words: Vec<i64> = line
+            .split(' ')
+            .skip(1)
+            .map_while(|word| word.parse().ok())
+            .collect();
+        Record {
+            state: words[0].try_into().unwrap(),
+            level: words[1].try_into().unwrap(),
+            dsv: words[2],
+            sectors: words[3].try_into().unwrap(),
+            closed: words[4] == 1,
+        }
+    };
+    let list = String::from_utf8(run("run.records")).unwrap();
+    list.lines().map(record).collect()
+}
+
+/// The run block by block: stream, closing code (Primary, which the DSV chooses here too) and the record after each call.
+#[test]
+fn run_by_blocks() {
+    let (records, due) = (run_records(), run("run.stream"));
+    let mut writer = Writer::new();
+    let mut out = buffer(0);
+    for (k, (main, first)) in run_mains().iter().zip(RUN).enumerate() {
+        writer = writer
+            .write_block(main, first, RUN_INFORMATION, &mut out)
+            .unwrap();
+        assert_eq!(writer.record(), records[16 * k + 15]);
+        assert!(
+            out[..] == due[BLOCK_STREAM * k..][..BLOCK_STREAM],
+            "the stream of block {k}"
+        );
+    }
+    let mut closing = [0; CLOSING];
+    writer = writer.close(&mut closing).unwrap();
+    assert_eq!(closing, due[3 * BLOCK_STREAM..]);
+    assert_eq!(writer.record(), records[48]);
+    assert_eq!((due.len(), records.len()), (3 * BLOCK_STREAM + CLOSING, 49));
+}
+
+/// The same sector by sector.
+#[test]
+fn run_by_sectors() {
+    let (records, blocks, due) = (run_records(), run("run.blocks"), run("run.stream"));
+    let mut writer = Writer::new();
+    let mut previous = None;
+    for (k, (main, first)) in run_mains().iter().zip(RUN).enumerate() {
+        let block = encode_block(main, previous, first, RUN_INFORMATION).unwrap();
+        assert!(block[..] == blocks[BLOCK * k..][..BLOCK], "block {k}");
+        for (i, sector) in block.chunks(SECTOR).enumerate() {
+            let (s, mut out) = (16 * k + i, [0; SECTOR_STREAM]);
+            writer = writer
+                .write_sector(sector.try_into().unwrap(), &mut out)
+                .unwrap();
+            assert_eq!(writer.record(), records[s]);
+            assert_eq!(out, due[SECTOR_STREAM * s..][..SECTOR_STREAM]);
+        }
+        previous = Some(first);
+    }
+}
+
+/// The run's streams block by block: as it was written, with random choices, and damaged. Of the damaged run, blocks 0 and 2 have at most eight heavy rows.
+#[test]
+fn run_sheets() {
+    let mains = run_mains();
+    let sheets = String::from_utf8(run("sheets.tsv")).unwrap();
+    let mut lines = 0;
+    for line in sheets.lines() {
+        let words: Vec<&str> = line.split('\t').collect();
+        let [name, k, due] = words[..] else {
+            panic!("{line}")
+        };
+        let (stream, k) = (run(name), k.parse::<usize>().unwrap());
+        let part = stream[BLOCK_STREAM * k..][..STREAM].try_into().unwrap();
+        let got = read_block(part);
+        if name != "run.damaged" || k != 1 {
+            let read = got.as_ref().unwrap();
+            assert!(*read.main == mains[k] && read.first == RUN[k], "{line}");
+        }
+        let words = got.map_or_else(|refusal| refusal.to_string(), |read| read.to_string());
+        assert_eq!(words.split(':').next(), Some(due), "{name} {k}");
+        lines += 1;
+    }
+    assert_eq!(lines, 9);
 }

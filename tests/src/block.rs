@@ -70,8 +70,13 @@ pub fn recorded(i: usize) -> usize {
     }
 }
 
-/// Refusals 1 to 3, or none.
-pub fn refusal(main: usize, out: usize, first: u32, info: u8) -> u32 {
+/// Whether a block may come after the one with this first number, or begin a run (document 02, request 1). The sum is not taken modulo 2^32.
+pub fn follows(previous: Option<u32>, first: u32) -> bool {
+    previous.map_or(true, |p| p as u64 + 16 == first as u64)
+}
+
+/// Refusals 1, 2, 3 and 10, or none.
+pub fn refusal(main: usize, out: usize, previous: Option<u32>, first: u32, info: u8) -> u32 {
     if main != MAIN || out != BLOCK {
         return 1;
     }
@@ -80,6 +85,9 @@ pub fn refusal(main: usize, out: usize, first: u32, info: u8) -> u32 {
     }
     if info & !0x2D != 0 {
         return 3;
+    }
+    if !follows(previous, first) {
+        return 10;
     }
     0
 }

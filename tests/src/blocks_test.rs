@@ -18,11 +18,19 @@ pub fn maker(report: &mut Report, random: &mut Random, count: usize) {
     for _ in 0..count {
         let main = random.bytes(MAIN);
         let (first, info) = accepted(random);
-        let answer = library::encode_block(&main, first, info, &mut out);
+        let previous = first.checked_sub(16).filter(|_| random.coin());
+        let answer = library::encode_block(&main, previous, first, info, &mut out);
         let right = block(&main, first, info);
-        report.check(answer == 0 && out == right, || format!("first {first} information {info}: {answer}"));
+        report.check(answer == 0 && out == right, || format!("first {first} after {previous:?} information {info}: {answer}"));
     }
     report.end();
+}
+
+/// Blocks before: none, the one due, one a little or much off, and those whose sum with 16 would be `first` modulo 2^32 only.
+pub fn previous_numbers(first: u32) -> Vec<Option<u32>> {
+    let steps = [16, 0, 1, 15, 17, 32, 256].map(|step| Some(first.wrapping_sub(step)));
+    let ends = [Some(0), Some(first.wrapping_add(16)), Some(u32::MAX), Some(u32::MAX - 15)];
+    [&[None], &steps[..], &ends[..]].concat()
 }
 
 pub fn maker_refusals(report: &mut Report, random: &mut Random) {
@@ -31,20 +39,30 @@ pub fn maker_refusals(report: &mut Report, random: &mut Random) {
     let firsts = [0, 8, 16, 1, 0x030000, 16_777_200, 16_777_201, 16_777_216, u32::MAX, u32::MAX - 15];
     for (n, m) in sizes {
         for first in firsts {
+            let before = previous_numbers(first);
             for info in 0..=255u8 {
-                let due = refusal(n, m, first, info);
-                if due == 0 {
-                    continue;
+                // a prohibited Information byte is refused whatever comes before: none, the one due and one other will do
+                let count = if info & !0x2D == 0 { before.len() } else { 3 };
+                for &previous in &before[..count] {
+                    maker_refusal(report, random, [n, m], previous, first, info);
                 }
-                let main = vec![info; n];
-                let was = vec![random.byte(); m];
-                let mut out = was.clone();
-                let answer = library::encode_block(&main, first, info, &mut out);
-                report.check(answer == due && out == was, || format!("{n} {m} {first} {info}: {answer} for {due}"));
             }
         }
     }
     report.end();
+}
+
+/// What the second implementation refuses the library refuses, and leaves the block buffer.
+fn maker_refusal(report: &mut Report, random: &mut Random, [n, m]: [usize; 2], previous: Option<u32>, first: u32, info: u8) {
+    let due = refusal(n, m, previous, first, info);
+    if due == 0 {
+        return;
+    }
+    let main = vec![info; n];
+    let was = vec![random.byte(); m];
+    let mut out = was.clone();
+    let answer = library::encode_block(&main, previous, first, info, &mut out);
+    report.check(answer == due && out == was, || format!("{n} {m} {first} after {previous:?} {info}: {answer} for {due}"));
 }
 
 /// Every word of 16 bits, before each kind of half word that may follow.

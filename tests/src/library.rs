@@ -41,9 +41,15 @@ pub fn fate_number(fate: Fate) -> u32 {
     }
 }
 
-pub fn encode_block(main: &[u8], first: u32, info: u8, out: &mut [u8]) -> u32 {
+/// At the boundary the number counts only where a block comes before; where none does, any will do.
+fn block_before(previous: Option<u32>) -> (bool, u32) {
+    (previous.is_some(), previous.unwrap_or(0xA5A5_A5A5))
+}
+
+pub fn encode_block(main: &[u8], previous: Option<u32>, first: u32, info: u8, out: &mut [u8]) -> u32 {
+    let (follows, before) = block_before(previous);
     let (to, size) = (out.as_mut_ptr(), out.len());
-    unsafe { chamanzil_encode_block(main.as_ptr(), main.len(), first, info, to, size) }
+    unsafe { chamanzil_encode_block(main.as_ptr(), main.len(), follows, before, first, info, to, size) }
 }
 
 pub fn read_word(word: u16, following: u16) -> Option<u8> {
@@ -86,6 +92,15 @@ pub fn new_record(old: &Record) -> Record {
 pub fn write_sector(record: &mut Record, bytes: &[u8], out: &mut [u8]) -> u32 {
     let mut r = kept(record);
     let answer = unsafe { chamanzil_write_sector(&mut r, bytes.as_ptr(), bytes.len(), out.as_mut_ptr(), out.len()) };
+    *record = record_of(r);
+    answer
+}
+
+pub fn write_block(record: &mut Record, previous: Option<u32>, main: &[u8], first: u32, info: u8, out: &mut [u8]) -> u32 {
+    let mut r = kept(record);
+    let (follows, before) = block_before(previous);
+    let (to, size) = (out.as_mut_ptr(), out.len());
+    let answer = unsafe { chamanzil_write_block(&mut r, follows, before, main.as_ptr(), main.len(), first, info, to, size) };
     *record = record_of(r);
     answer
 }

@@ -2,6 +2,7 @@
 mod block;
 mod blocks_test;
 mod codes_test;
+mod damage;
 mod gf;
 mod library;
 mod papers;
@@ -10,6 +11,8 @@ mod readers_test;
 mod reading;
 mod report;
 mod rs;
+mod run;
+mod runs_test;
 mod tables;
 mod tidy;
 mod trial_data;
@@ -38,8 +41,10 @@ fn round(report: &mut Report, seed: u64) {
     writer_test::blocks(report, &mut random, &tables, 200);
     writer_test::sectors(report, &mut random, &tables, 2_000);
     writer_test::edges(report, &mut random, &tables);
-    writer_test::refusals(report, &mut random, 20_000);
+    writer_test::ends(report, &mut random, &tables);
+    writer_test::refusals(report, &mut random, &tables, 20_000);
     readers_test::all(report, &mut random, &tables, &reader);
+    runs_test::all(report, &mut random, &tables, &reader);
 }
 
 /// `--trial-data FOLDER` writes cases for crate `trials`. `--long [SEED]` runs until stopped or until something differs, with a new seed each round.

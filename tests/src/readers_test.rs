@@ -1,6 +1,7 @@
 //! The sector reader, the block repairer and the whole-block reader of the library against the second implementation.
 use crate::block::{block, block_of_frames, frame, BLOCK, MAIN};
 use crate::blocks_test::accepted;
+use crate::damage::damage;
 use crate::library;
 use crate::random::Random;
 use crate::reading::{repair_block, Answer, Reader, Tallies};
@@ -9,19 +10,18 @@ use crate::tables::Tables;
 use crate::writing::{permitted_stream, LAID, SECTOR};
 
 const STREAM: usize = 77_380;
-const ROWS: usize = 208;
 
 /// What a call of one of the block functions answered and left.
 #[derive(PartialEq, Eq, Clone)]
-struct Left {
-    number: u32,
-    block: Vec<u8>,
-    main: Vec<u8>,
-    report: Vec<u32>,
+pub struct Left {
+    pub number: u32,
+    pub block: Vec<u8>,
+    pub main: Vec<u8>,
+    pub report: Vec<u32>,
 }
 
 impl Left {
-    fn told(&self) -> String {
+    pub fn told(&self) -> String {
         format!("{} {:?}", self.number, self.report)
     }
 }
@@ -78,7 +78,7 @@ fn due(answer: &Answer, repaired: Vec<u8>, was: &Left, with_sectors: bool) -> Le
 }
 
 /// The whole-block reader's call and the second implementation's answer, compared. Whatever they are, they have to be the same.
-fn compare(report: &mut Report, random: &mut Random, reader: &Reader, stream: &[u8]) -> (Left, Answer) {
+pub fn compare(report: &mut Report, random: &mut Random, reader: &Reader, stream: &[u8]) -> (Left, Answer) {
     let was = buffers(random, [BLOCK, MAIN, 8]);
     let ours = called(stream, &was);
     let mut buffer = Vec::new();
@@ -107,114 +107,6 @@ fn compare_repairer(report: &mut Report, random: &mut Random, given: &[u8]) -> (
 }
 
 // ---- damage
-
-/// A stream beside the permitted one that it was, and the rows that may have more than 5 touched bytes.
-struct Damaged<'a> {
-    right: &'a [u8],
-    stream: Vec<u8>,
-    is_heavy: [bool; ROWS],
-}
-
-fn half_at(stream: &[u8], half: usize) -> u16 {
-    u16::from_be_bytes([stream[2 * half], stream[2 * half + 1]])
-}
-
-/// The half word of the stream that stands for byte i of the block.
-fn half_of(i: usize) -> usize {
-    i / 91 * 93 + 2 + i % 91
-}
-
-/// The row of the byte that a half word stands for, unless that is a SYNC Code's.
-fn row_of(half: usize) -> Option<usize> {
-    if half % 93 < 2 || half / 93 >= 2 * ROWS {
-        return None;
-    }
-    Some(half / 93 / 2)
-}
-
-impl Damaged<'_> {
-    fn changed(&self, half: usize) -> u16 {
-        half_at(self.right, half) ^ half_at(&self.stream, half)
-    }
-
-    /// A bit of the byte's own word, or bit 15 or 3 of the half word after it.
-    fn touched(&self, i: usize) -> bool {
-        self.changed(half_of(i)) != 0 || self.changed(half_of(i) + 1) & 0x8008 != 0
-    }
-
-    fn touched_in(&self, row: usize) -> usize {
-        (182 * row..182 * row + 182).filter(|&i| self.touched(i)).count()
-    }
-
-    fn flip(&mut self, half: usize, pattern: u16) {
-        self.stream[2 * half] ^= (pattern >> 8) as u8;
-        self.stream[2 * half + 1] ^= pattern as u8;
-    }
-
-    /// Changes a half word, unless a row that is not to be heavy would be.
-    fn change(&mut self, random: &mut Random, half: usize) {
-        let pattern = match random.below(3) {
-            0 => 1 << random.below(16),
-            1 => 1 + random.below(65_535) as u16,
-            _ => (1 + random.below(65_535) as u16) & !0x8008,
-        };
-        self.flip(half, pattern);
-        let rows = [row_of(half), half.checked_sub(1).and_then(row_of)];
-        let is_past = rows.into_iter().flatten().any(|r| !self.is_heavy[r] && self.touched_in(r) > 5);
-        if is_past {
-            self.flip(half, pattern);
-        }
-    }
-
-    fn change_row(&mut self, random: &mut Random, row: usize, count: usize) {
-        for _ in 0..count {
-            let i = 182 * row + random.below(182);
-            self.change(random, half_of(i));
-        }
-    }
-}
-
-/// A stream with exactly `heavy` rows of more than 5 touched bytes, scattered or in a run, and with spoiled SYNC Codes.
-fn damage(random: &mut Random, right: &[u8], heavy: usize) -> Vec<u8> {
-    let mut d = Damaged {
-        right,
-        stream: right.to_vec(),
-        is_heavy: [false; ROWS],
-    };
-    if random.below(3) == 0 {
-        let from = random.below(ROWS + 1 - heavy);
-        d.is_heavy[from..from + heavy].fill(true);
-    } else {
-        random.places(ROWS, heavy).into_iter().for_each(|r| d.is_heavy[r] = true);
-    }
-    // all heavy rows just so, each as it comes, or all of them lost
-    let kind = random.below(3);
-    for row in 0..ROWS {
-        if d.is_heavy[row] {
-            let count = [6, 6 + random.below(400), 800][kind];
-            d.change_row(random, row, count);
-            while d.touched_in(row) <= 5 {
-                d.change_row(random, row, 1);
-            }
-        } else {
-            let count = [0, 1, 3, 5, 30][random.below(5)];
-            d.change_row(random, row, count);
-        }
-    }
-    for _ in 0..random.below(100) {
-        let half = 93 * random.below(417) + random.below(2);
-        d.change(random, half);
-    }
-    // changes may have undone one another
-    for row in 0..ROWS {
-        while d.is_heavy[row] && d.touched_in(row) <= 5 {
-            d.change_row(random, row, 1);
-        }
-    }
-    let all = (0..ROWS).filter(|&r| d.touched_in(r) > 5).count();
-    assert_eq!(all, heavy);
-    d.stream
-}
 
 fn random_stream(random: &mut Random, t: &Tables) -> (Vec<u8>, u32, Vec<u8>) {
     let main = random.bytes(MAIN);

@@ -1,9 +1,11 @@
 //! The second implementation against the project's vectors, which a third hand made.
-use crate::block::block;
-use crate::reading::{sheet, zero_runs_hold, Reader};
+use crate::block::{block, BLOCK, MAIN};
+use crate::damage::heavy_rows;
+use crate::reading::{sheet, zero_runs_hold, Answer, Reader};
 use crate::report::Report;
+use crate::run::{blocks_of, part, Input, BLOCK_LAID};
 use crate::tables::Tables;
-use crate::writing::{permitted_stream, write_block, write_sector, Follow, FrameTrace, Record};
+use crate::writing::{permitted_stream, write_run, write_sector, Follow, FrameTrace, Record};
 use std::path::Path;
 
 pub const BLOCKS: [(&str, u32, u8); 3] = [("b1", 0x030000, 0), ("b2", 0, 0x2D), ("z", 0x030000, 0)];
@@ -35,7 +37,7 @@ fn blocks(report: &mut Report, t: &Tables, reader: &Reader) {
         report.begin(&format!("vectors: {name}"));
         let made = block(&load(&format!("{name}.main")), first, info);
         report.check(made == load(&format!("{name}.block")), || "the block".into());
-        let (stream, records) = write_block(t, &made);
+        let (stream, records) = write_run(t, &made);
         let due = load(&format!("{name}.stream"));
         report.check(stream == due, || "the stream".into());
         report.check(records_text(&records) == text(&format!("{name}.records")), || records_text(&records));
@@ -128,10 +130,89 @@ fn damaged(report: &mut Report, reader: &Reader) {
     report.end();
 }
 
+/// The run of three blocks, by the README of its vectors.
+pub fn run_inputs() -> Vec<Input> {
+    let main = load("run/run.main");
+    let input = |(part, first): (&[u8], u32)| Input { main: part.to_vec(), first, info: 0x25 };
+    main.chunks(MAIN).zip([0x02FFE0, 0x02FFF0, 0x030000]).map(input).collect()
+}
+
+/// A record as the run's list has it, without the two words after it that are of requests 4 and 5.
+fn record_line(r: &Record) -> String {
+    format!("record {} {} {} {} {}", r.state, r.level, r.dsv, r.sectors, r.closed as u8)
+}
+
+/// The run's blocks, its stream and its records. The closing code was chosen by DSV (request 7), which here is Primary, as it always is until then.
+fn run_written(report: &mut Report, t: &Tables) {
+    report.begin("vectors: the run, written");
+    let blocks = blocks_of(&run_inputs());
+    let (due_blocks, due_stream) = (load("run/run.blocks"), load("run/run.stream"));
+    for k in 0..3 {
+        let place = BLOCK * k..BLOCK * (k + 1);
+        report.check(blocks[place.clone()] == due_blocks[place], || format!("block {k}"));
+    }
+    let (stream, records) = write_run(t, &blocks);
+    for (s, (ours, due)) in stream.chunks(4_836).zip(due_stream.chunks(4_836)).enumerate() {
+        report.check(ours == due, || format!("sector {s} of the stream, or the closing code after the last"));
+    }
+    let list = text("run/run.records");
+    report.check(list.lines().count() == 49 && records.len() == 49, || format!("{} records", records.len()));
+    for (record, line) in records.iter().zip(list.lines()) {
+        let ours = record_line(record);
+        report.check(line.strip_prefix(&ours).is_some_and(|rest| rest.starts_with(' ')), || format!("{ours} for {line}"));
+    }
+    report.end();
+}
+
+/// Both streams of the run are permitted, seams included; the closing code of `run.rstream` is the Secondary one, which only request 7 permits.
+fn run_permitted(report: &mut Report, t: &Tables) {
+    report.begin("vectors: the run, permitted");
+    let blocks = blocks_of(&run_inputs());
+    for name in ["run.stream", "run.rstream"] {
+        let stream = load(&format!("run/{name}"));
+        let again = permitted_stream(t, &blocks, &mut Follow { stream: &stream, at: 0 });
+        let sectors = again.as_ref().map(|a| &a[..3 * BLOCK_LAID]);
+        report.check(sectors == Some(&stream[..3 * BLOCK_LAID]), || format!("{name} is not permitted"));
+        let closing = |s: &[u8]| u16::from_be_bytes([s[3 * BLOCK_LAID], s[3 * BLOCK_LAID + 1]]);
+        let is_closed = |a: &Vec<u8>| {
+            let class = t.sync.iter().find(|class| class[0][0] == closing(a)).unwrap();
+            class[0].contains(&closing(&stream)) && stream.ends_with(&a[3 * BLOCK_LAID + 2..])
+        };
+        report.check(again.is_some_and(|a| is_closed(&a)), || format!("{name} is not closed by an SY0 of its class"));
+        report.check(zero_runs_hold(&stream), || format!("zero runs of {name}"));
+    }
+    report.end();
+}
+
+/// Every block of the run's streams. The sheets were made with marks (request 2), which change none of these lines. A damaged block with at most 8 heavy rows has
+/// to read to its main data whatever its line says.
+fn run_read(report: &mut Report, reader: &Reader) {
+    report.begin("vectors: the run, read");
+    let (inputs, right) = (run_inputs(), load("run/run.stream"));
+    let mut mended = 0;
+    for line in text("run/sheets.tsv").lines() {
+        let words: Vec<&str> = line.split('\t').collect();
+        let [name, k, due] = words[..] else { panic!("{line}") };
+        let (stream, k) = (load(&format!("run/{name}")), k.parse::<usize>().unwrap());
+        let answer = reader.block(part(&stream, k), &mut Vec::new());
+        let ours = sheet(&answer);
+        report.check(ours == due, || format!("{name} {k}: {ours} for {due}"));
+        let is_light = name != "run.damaged" || heavy_rows(part(&right, k), part(&stream, k)) <= 8;
+        let is_back = matches!(&answer, Answer::HandedOut { main, first, .. } if *main == inputs[k].main && *first == inputs[k].first);
+        report.check(is_back == is_light, || format!("{name} {k}: the main data"));
+        mended += usize::from(is_light && name == "run.damaged");
+    }
+    report.check(mended == 2, || format!("{mended} damaged blocks have at most 8 heavy rows"));
+    report.end();
+}
+
 pub fn all(report: &mut Report) {
     let (t, reader) = (Tables::new(), Reader::new());
     blocks(report, &t, &reader);
     far_out(report, &t);
     trial14(report, &t);
     damaged(report, &reader);
+    run_written(report, &t);
+    run_permitted(report, &t);
+    run_read(report, &reader);
 }

@@ -5,7 +5,7 @@ use crate::library;
 use crate::random::Random;
 use crate::report::Report;
 use crate::tables::Tables;
-use crate::writing::{close, write_sector, FrameTrace, Record, LAID, SECTOR};
+use crate::writing::{close, write_sector, FrameTrace, Record, LAID, RUN_SECTORS, SECTOR};
 
 /// One sector from a record, by both; what the second implementation did.
 fn compare_sector(report: &mut Report, t: &Tables, record: Record, bytes: &[u8]) -> (Record, Vec<FrameTrace>) {
@@ -30,24 +30,35 @@ pub fn blocks(report: &mut Report, random: &mut Random, t: &Tables, count: usize
         for sector in made.chunks(SECTOR) {
             record = compare_sector(report, t, record, sector).0;
         }
-        let (mut ours, mut theirs) = (record, record);
-        let mut out = [0xA5; 4];
-        let answer = library::close(&mut ours, &mut out);
-        let stream = close(t, &mut theirs);
-        report.check(answer == 0 && ours == theirs && out[..] == stream, || format!("closing {record:?}: {answer}"));
+        compare_closing(report, t, record);
     }
     report.end();
 }
 
-fn random_record(random: &mut Random) -> Record {
-    let sectors = random.below(16) as u32;
-    let limit = 38_688 * sectors as usize;
+/// The closing code after a record, by both.
+fn compare_closing(report: &mut Report, t: &Tables, record: Record) {
+    let (mut ours, mut theirs) = (record, record);
+    let mut out = [0xA5; 4];
+    let answer = library::close(&mut ours, &mut out);
+    let stream = close(t, &mut theirs);
+    report.check(answer == 0 && ours == theirs && out[..] == stream, || format!("closing {record:?}: {answer}"));
+}
+
+/// A record that a sector may follow: in a run's first block, at its end, or anywhere.
+pub fn random_record(random: &mut Random) -> Record {
+    let before_end = RUN_SECTORS as usize - 1;
+    let sectors = match random.below(3) {
+        0 => random.below(16),
+        1 => before_end - random.below(40),
+        _ => random.below(before_end),
+    } as u32;
+    let limit = 38_688 * sectors as u64;
     // near zero, at the rule's edge, or anywhere
     let size = match random.below(4) {
-        0 => random.below(40),
-        1 => 40 + random.below(60),
-        2 => 100 + random.below(2_000),
-        _ => random.below(limit + 1),
+        0 => random.below(40) as u64,
+        1 => 40 + random.below(60) as u64,
+        2 => 100 + random.below(2_000) as u64,
+        _ => random.next() % (limit + 1),
     };
     let size = size.min(limit) as i64;
     Record {
@@ -112,38 +123,100 @@ pub fn edges(report: &mut Report, random: &mut Random, t: &Tables) {
     }
 }
 
-fn odd_record(random: &mut Random) -> Record {
-    let sectors = [0, 1, 2, 15, 16, 17, 255, u32::MAX][random.below(8)];
-    let limit = 38_688 * (sectors.min(20) as i64);
-    let dsvs = [0, 1, limit, limit + 1, limit + 31, limit + 32, limit + 33, i64::MAX];
-    let dsv = dsvs[random.below(8)];
+/// Counts of sectors around each number that a refusal looks at.
+const COUNTS: [u32; 18] = [
+    0, 1, 8, 15, 16, 17, 24, 32, 255, 16_777_199, 16_777_200, 16_777_201, 16_777_208, 16_777_215, 16_777_216, 16_777_217, 16_777_232, u32::MAX,
+];
+
+/// DSVs at the limit of a count of sectors, within and beyond it.
+fn limits(sectors: u32) -> [i64; 6] {
+    let limit = 38_688 * sectors as i64;
+    [0, limit, limit + 1, limit + 32, limit + 33, i64::MAX]
+}
+
+/// A record in or out of range.
+pub fn odd_record(random: &mut Random) -> Record {
+    let sectors = match random.below(3) {
+        0 => random.next() as u32 % (RUN_SECTORS + 100),
+        _ => COUNTS[random.below(COUNTS.len())],
+    };
+    let dsv = limits(sectors)[random.below(6)];
     Record {
-        state: random.below(6) as u8,
+        state: [1, 2, 3, 4, 0, 5][random.below(6)],
         level: random.below(3) as u8,
-        dsv: if random.coin() { dsv } else { -1 - dsv },
+        dsv: if random.coin() { dsv } else { -dsv - random.below(2) as i64 },
         sectors,
         closed: random.coin(),
     }
 }
 
-/// Records in and out of range, and lengths: the number, and everything left as it was; and a new record after each.
-pub fn refusals(report: &mut Report, random: &mut Random, count: usize) {
+/// Every one of the counts with each of its limits, open and closed, in sound States and levels and in others.
+pub fn records_at_ends() -> Vec<Record> {
+    let mut records = Vec::new();
+    for sectors in COUNTS {
+        for dsv in limits(sectors).into_iter().flat_map(|dsv| [dsv, -dsv]) {
+            for (state, level) in [(1, 0), (2, 1), (3, 1), (4, 0), (0, 0), (5, 1), (1, 2)] {
+                records.extend([false, true].map(|closed| Record { state, level, dsv, sectors, closed }));
+            }
+        }
+    }
+    records
+}
+
+/// Records around every number that a refusal looks at: what is refused is left, and what is not is written alike.
+pub fn ends(report: &mut Report, random: &mut Random, t: &Tables) {
+    report.begin("writer: records at the ends of a run");
+    let bytes = random_sector(random);
+    for record in records_at_ends() {
+        end(report, t, record, &bytes);
+    }
+    report.end();
+}
+
+fn end(report: &mut Report, t: &Tables, record: Record, bytes: &[u8]) {
+    match record.sector_refusal(SECTOR, LAID) {
+        0 => drop(compare_sector(report, t, record, bytes)),
+        due => sector_refused(report, record, bytes, LAID, due),
+    }
+    match record.closing_refusal(4) {
+        0 => compare_closing(report, t, record),
+        due => closing_refused(report, record, 4, due),
+    }
+}
+
+/// A refused sector leaves record and buffer.
+fn sector_refused(report: &mut Report, record: Record, bytes: &[u8], to: usize, due: u32) {
+    let (mut ours, mut out) = (record, vec![0xA5; to]);
+    let answer = library::write_sector(&mut ours, bytes, &mut out);
+    let is_left = ours == record && out.iter().all(|&b| b == 0xA5);
+    report.check(answer == due && is_left, || format!("{record:?} {} {to}: {answer} for {due}", bytes.len()));
+}
+
+/// A refused closing likewise.
+fn closing_refused(report: &mut Report, record: Record, to: usize, due: u32) {
+    let (mut ours, mut out) = (record, vec![0xA5; to]);
+    let answer = library::close(&mut ours, &mut out);
+    let is_left = ours == record && out.iter().all(|&b| b == 0xA5);
+    report.check(answer == due && is_left, || format!("closing {record:?} {to}: {answer} for {due}"));
+}
+
+/// Records in and out of range, and lengths: the number, and everything left as it was where there is one; and a new record after each.
+pub fn refusals(report: &mut Report, random: &mut Random, t: &Tables, count: usize) {
     report.begin("writer: refusals");
     for _ in 0..count {
         let record = odd_record(random);
         let from = SECTOR - 1 + [1, 0, 1, 2, 1][random.below(5)];
+        let bytes = random.bytes(from);
         let to = LAID - 1 + [1, 0, 1, 2, 1][random.below(5)];
-        let due = record.sector_refusal(from, to);
-        let (mut ours, mut out) = (record, vec![0xA5; to]);
-        let answer = library::write_sector(&mut ours, &random.bytes(from), &mut out);
-        let is_left = ours == record && out.iter().all(|&b| b == 0xA5);
-        report.check(answer == due && (due == 0 || is_left), || format!("{record:?} {from} {to}: {answer} for {due}"));
+        match record.sector_refusal(from, to) {
+            0 => drop(compare_sector(report, t, record, &bytes)),
+            due => sector_refused(report, record, &bytes, to, due),
+        }
         let to = [4, 3, 4, 5, 4][random.below(5)];
-        let due = record.closing_refusal(to);
-        let (mut ours, mut out) = (record, vec![0xA5; to]);
-        let answer = library::close(&mut ours, &mut out);
-        let is_left = ours == record && out.iter().all(|&b| b == 0xA5);
-        report.check(answer == due && (due == 0 || is_left), || format!("closing {record:?} {to}: {answer} for {due}"));
+        match record.closing_refusal(to) {
+            0 => compare_closing(report, t, record),
+            due => closing_refused(report, record, to, due),
+        }
         report.check(library::new_record(&record) == Record::start(), || format!("new after {record:?}"));
     }
     report.end();

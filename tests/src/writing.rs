@@ -4,6 +4,8 @@ use crate::tables::{joins, sync_numbers, Entry, Tables, SYNC_END};
 
 pub const SECTOR: usize = 2_366;
 pub const LAID: usize = 4_836;
+/// The most sectors of a run (document 02, request 1).
+pub const RUN_SECTORS: u32 = 16_777_216;
 
 /// The writer's record.
 #[derive(Clone, Copy, Debug, PartialEq, Eq)]
@@ -26,25 +28,37 @@ impl Record {
         }
     }
 
+    /// Whether a run may be closed here: after the last sector of a block.
+    fn is_between_blocks(&self) -> bool {
+        self.sectors > 0 && self.sectors % 16 == 0
+    }
+
     /// Refusal 9.
     pub fn is_bad(&self) -> bool {
         let room = 38_688 * self.sectors as i128 + if self.closed { 32 } else { 0 };
         !(1..=4).contains(&self.state)
             || self.level > 1
-            || self.sectors > 16
-            || (self.closed && self.sectors < 16)
+            || self.sectors > RUN_SECTORS
+            || (self.closed && !self.is_between_blocks())
             || (self.dsv as i128).abs() > room
+    }
+
+    /// Refusals 9 and 7 of a call that writes so many sectors.
+    pub fn run_refusal(&self, count: u32) -> u32 {
+        if self.is_bad() {
+            9
+        } else if self.closed || self.sectors as u64 + count as u64 > RUN_SECTORS as u64 {
+            7
+        } else {
+            0
+        }
     }
 
     pub fn sector_refusal(&self, from: usize, to: usize) -> u32 {
         if from != SECTOR || to != LAID {
             1
-        } else if self.is_bad() {
-            9
-        } else if self.closed || self.sectors == 16 {
-            7
         } else {
-            0
+            self.run_refusal(1)
         }
     }
 
@@ -55,7 +69,7 @@ impl Record {
             9
         } else if self.closed {
             7
-        } else if self.sectors < 16 {
+        } else if !self.is_between_blocks() {
             8
         } else {
             0
@@ -212,12 +226,12 @@ pub fn close(t: &Tables, record: &mut Record) -> Vec<u8> {
     packed(&stream.halves)
 }
 
-/// A whole block by the two-stream rule, and the record after each sector and after closing.
-pub fn write_block(t: &Tables, block: &[u8]) -> (Vec<u8>, Vec<Record>) {
+/// A run of whole blocks by the two-stream rule, and the record after each sector and after closing.
+pub fn write_run(t: &Tables, blocks: &[u8]) -> (Vec<u8>, Vec<Record>) {
     let mut record = Record::start();
     let mut stream = Vec::new();
     let mut records = Vec::new();
-    for sector in block.chunks(SECTOR) {
+    for sector in blocks.chunks(SECTOR) {
         stream.extend(write_sector(t, &mut record, sector).0);
         records.push(record);
     }
@@ -263,11 +277,11 @@ impl Chooser for Follow<'_> {
     }
 }
 
-/// The permitted stream of a block that a chooser takes, with its closing code, or none where the chooser finds no permitted word.
-pub fn permitted_stream(t: &Tables, block: &[u8], chooser: &mut dyn Chooser) -> Option<Vec<u8>> {
+/// The permitted stream of a run of blocks that a chooser takes, with its closing code, or none where the chooser finds no permitted word.
+pub fn permitted_stream(t: &Tables, blocks: &[u8], chooser: &mut dyn Chooser) -> Option<Vec<u8>> {
     let mut halves = Vec::new();
     let mut state = 1;
-    for (f, part) in block.chunks(91).enumerate() {
+    for (f, part) in blocks.chunks(91).enumerate() {
         let codes = t.codes(state, sync_numbers()[f % 26]);
         halves.push(codes[chooser.pick(&codes)?]);
         halves.push(SYNC_END);

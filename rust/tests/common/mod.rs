@@ -30,6 +30,12 @@ impl Numbers {
     }
 }
 
+/// A buffer on the heap, full of one byte.
+#[allow(clippy::unnecessary_box_returns)]
+pub fn buffer<const N: usize>(byte: u8) -> Box<[u8; N]> {
+    vec![byte; N].into_boxed_slice().try_into().unwrap()
+}
+
 pub fn main_data(seed: u64) -> Box<[u8; MAIN]> {
     Numbers::new(seed)
         .bytes(MAIN)

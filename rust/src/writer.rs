@@ -1,0 +1,197 @@
+use crate::{slices, Refusal, BLOCK_STREAM, CLOSING, MAIN, SECTOR, SECTOR_STREAM};
+
+/// The writer's record: the State prescribed next, the NRZI level, the DSV, the sectors of the run written, and whether the closing code is written.
+/// It lies in memory as `crates/writer` and C have it.
+#[repr(C)]
+#[derive(Clone, Copy, Debug, PartialEq, Eq, Hash)]
+pub struct Record {
+    /// 1 to 4.
+    pub state: u8,
+    /// 0 or 1.
+    pub level: u8,
+    /// The Digital Sum Value so far.
+    pub dsv: i64,
+    /// 0 to 16,777,216.
+    pub sectors: u32,
+    /// Whether the closing code is written.
+    pub closed: bool,
+}
+
+impl Record {
+    /// The record before the first sector of a run.
+    #[must_use]
+    pub const fn new() -> Self {
+        Record {
+            state: 1,
+            level: 0,
+            dsv: 0,
+            sectors: 0,
+            closed: false,
+        }
+    }
+}
+
+impl Default for Record {
+    fn default() -> Self {
+        Self::new()
+    }
+}
+
+/// The writer (clause 22): it goes on over the blocks of a run, and closes it. A call takes it by value and hands back the next one; a refusal leaves the caller's
+/// own as it was.
+///
+/// ```
+/// use chamanzil::{read_block, Refusal, Writer, BLOCK_STREAM, CLOSING, MAIN, STREAM};
+/// let mains = [[1; MAIN], [2; MAIN]];
+/// let mut stream = vec![0; 2 * BLOCK_STREAM + CLOSING];
+/// let mut writer = Writer::new();
+/// for ((main, first), out) in mains.iter().zip([0x03_0000, 0x03_0010]).zip(stream.chunks_mut(BLOCK_STREAM)) {
+///     writer = writer.write_block(main, first, 0x00, out.try_into().unwrap())?;
+/// }
+/// writer = writer.close((&mut stream[2 * BLOCK_STREAM..]).try_into().unwrap())?;
+/// assert_eq!(writer.close(&mut [0; CLOSING]), Err(Refusal::RunEnded));
+///
+/// for (k, main) in mains.iter().enumerate() {
+///     let read = read_block(stream[k * BLOCK_STREAM..][..STREAM].try_into().unwrap())?;
+///     assert_eq!(*read.main, *main);
+/// }
+/// # Ok::<(), Refusal>(())
+/// ```
+#[derive(Clone, Copy, Debug, Default, PartialEq, Eq, Hash)]
+pub struct Writer {
+    record: Record,
+    previous: Option<u32>,
+}
+
+impl Writer {
+    /// At the start of a run.
+    ///
+    /// ```
+    /// let writer = chamanzil::Writer::new();
+    /// assert_eq!((writer.record(), writer.previous()), (chamanzil::Record::new(), None));
+    /// ```
+    #[must_use]
+    pub const fn new() -> Self {
+        Writer {
+            record: Record::new(),
+            previous: None,
+        }
+    }
+
+    /// From a record that was kept, and the first number of the block before. A record that no writer hands out is refused with number 9 by the next call.
+    ///
+    /// ```
+    /// use chamanzil::{Record, Refusal, Writer, BLOCK_STREAM, CLOSING, MAIN};
+    /// let writer = Writer::new().write_block(&[0; MAIN], 0, 0, &mut [0; BLOCK_STREAM])?;
+    /// assert_eq!(Writer::from_record(writer.record(), writer.previous()), writer);
+    /// let writer = Writer::from_record(Record { state: 5, ..Record::new() }, None);
+    /// assert_eq!(writer.close(&mut [0; CLOSING]), Err(Refusal::Record));
+    /// # Ok::<(), Refusal>(())
+    /// ```
+    #[must_use]
+    pub const fn from_record(record: Record, previous: Option<u32>) -> Self {
+        Writer { record, previous }
+    }
+
+    /// The record.
+    #[must_use]
+    pub const fn record(self) -> Record {
+        self.record
+    }
+
+    /// The first number of the last block that [`write_block`](Self::write_block) wrote, which the next one has to follow.
+    ///
+    /// ```
+    /// use chamanzil::{Refusal, Writer, BLOCK_STREAM, MAIN};
+    /// let (main, mut out) = ([0; MAIN], [0; BLOCK_STREAM]);
+    /// let writer = Writer::new().write_block(&main, 0x03_0000, 0, &mut out)?;
+    /// assert_eq!(writer.previous(), Some(0x03_0000));
+    /// assert_eq!(writer.write_block(&main, 0x03_0020, 0, &mut out), Err(Refusal::Sequence));
+    /// # Ok::<(), Refusal>(())
+    /// ```
+    #[must_use]
+    pub const fn previous(self) -> Option<u32> {
+        self.previous
+    }
+
+    /// A sector of a block, by the two-stream rule. The bytes are the caller's, and what block they are of is not looked at: [`previous`](Self::previous) stays.
+    ///
+    /// ```
+    /// use chamanzil::{encode_block, Refusal, Writer, BLOCK_STREAM, MAIN, SECTOR, SECTOR_STREAM};
+    /// let (mut by_block, mut by_sectors) = ([0; BLOCK_STREAM], [0; BLOCK_STREAM]);
+    /// let whole = Writer::new().write_block(&[0; MAIN], 0, 0, &mut by_block)?;
+    /// let block = encode_block(&[0; MAIN], None, 0, 0)?;
+    /// let mut writer = Writer::new();
+    /// for (sector, out) in block.chunks(SECTOR).zip(by_sectors.chunks_mut(SECTOR_STREAM)) {
+    ///     writer = writer.write_sector(sector.try_into().unwrap(), out.try_into().unwrap())?;
+    /// }
+    /// assert_eq!((by_sectors, writer.record()), (by_block, whole.record()));
+    /// # Ok::<(), Refusal>(())
+    /// ```
+    ///
+    /// # Errors
+    /// 9 or 7, with `out` as it was.
+    pub fn write_sector(
+        self,
+        bytes: &[u8; SECTOR],
+        out: &mut [u8; SECTOR_STREAM],
+    ) -> Result<Self, Refusal> {
+        let Writer {
+            mut record,
+            previous,
+        } = self;
+        slices::write_sector(&mut record, bytes, out)?;
+        Ok(Writer { record, previous })
+    }
+
+    /// A whole block of the run: the block maker, which holds `first` to the block before, then sixteen sectors.
+    ///
+    /// ```
+    /// use chamanzil::{format_block, Refusal, Writer, BLOCK_STREAM, MAIN};
+    /// let (main, mut out) = ([0; MAIN], [0; BLOCK_STREAM]);
+    /// let writer = Writer::new().write_block(&main, 0x03_0000, 0, &mut out)?;
+    /// assert_eq!(out, format_block(&main, 0x03_0000, 0)?[..BLOCK_STREAM]);
+    /// let writer = writer.write_block(&main, 0x03_0010, 0, &mut out)?;
+    /// assert_eq!(writer.record().sectors, 32);
+    /// # Ok::<(), Refusal>(())
+    /// ```
+    ///
+    /// # Errors
+    /// 2, 3, 10, 9 or 7, with `out` as it was.
+    pub fn write_block(
+        self,
+        main: &[u8; MAIN],
+        first: u32,
+        info: u8,
+        out: &mut [u8; BLOCK_STREAM],
+    ) -> Result<Self, Refusal> {
+        let mut record = self.record;
+        slices::write_block(&mut record, self.previous, main, first, info, out)?;
+        Ok(Writer {
+            record,
+            previous: Some(first),
+        })
+    }
+
+    /// The closing code after the last block of the run.
+    ///
+    /// ```
+    /// use chamanzil::{Refusal, Writer, BLOCK_STREAM, CLOSING, MAIN};
+    /// let mut out = [0; CLOSING];
+    /// assert_eq!(Writer::new().close(&mut out), Err(Refusal::RunUnfinished));
+    /// let writer = Writer::new().write_block(&[0; MAIN], 0, 0, &mut [0; BLOCK_STREAM])?;
+    /// assert!(writer.close(&mut out)?.record().closed);
+    /// # Ok::<(), Refusal>(())
+    /// ```
+    ///
+    /// # Errors
+    /// 9, 7 or 8, with `out` as it was.
+    pub fn close(self, out: &mut [u8; CLOSING]) -> Result<Self, Refusal> {
+        let Writer {
+            mut record,
+            previous,
+        } = self;
+        slices::close(&mut record, out)?;
+        Ok(Writer { record, previous })
+    }
+}
