@@ -1,9 +1,12 @@
-// The console keeps one record for as long as the writer runs: thin calls over the record, which is lent by `&mut`. Each hands the record to the writer and
-// stores the one that comes back.
+// The console keeps one record for a whole run of blocks, from the first sector to the closing code: thin calls over the record, which is lent by `&mut`. Each hands
+// the record to the writer, or to the formatter for a whole block, and stores the one that comes back.
 ghost use mathlib.Core.Path.{_≡_};
 ghost use lib.ListN.{length};
 ghost use Rattle.writer.specs.Records.{start};
 ghost use Rattle.writer.specs.Answers.{answerNumber, sectorRefusal, sectorNext, sectorOut, closingRefusal, closingNext, closingOut};
+ghost use Rattle.formatter.specs.Formatter.{formattedNumber, writeBlockRefusal, writeBlockNext, writeBlockOut};
+use eccblock::Previous;
+use formatter::Formatted;
 use writer::Answer;
 use writer::Record;
 
@@ -40,6 +43,30 @@ pub fn write(kept: &mut Record, bytes: &[u8], out: &mut [u8]) -> Answer
     let step = writer::write_sector(before, bytes, out);
     let after = step.next;
     *kept = after;
+    step.answer
+}
+
+// A whole block of the run: 32,768 main data bytes, laid as 77,376. `previous` is the block before.
+pub fn write_block(
+    kept: &mut Record,
+    previous: Previous,
+    main: &[u8],
+    first: u32,
+    info: u8,
+    out: &mut [u8],
+) -> Formatted
+    ensures { λ r. ⌜ formattedNumber r
+        ≡ writeBlockRefusal (now (kept .entry)) previous (length (now (main .entry))) (length (now (out .entry)))
+        first info ⌝ }
+    ensures { λ r. ⌜ now (kept .exit)
+        ≡ writeBlockNext (now (kept .entry)) previous (now (main .entry)) first info (length (now (out .entry))) ⌝ }
+    ensures { λ r. ⌜ now (out .exit)
+        ≡ writeBlockOut (now (kept .entry)) previous (now (main .entry)) first info (now (out .entry)) ⌝ }
+{
+    let before = *kept;
+    let step = formatter::write_block(before, previous, main, first, info, out);
+    let written = step.next;
+    *kept = written;
     step.answer
 }
 
