@@ -86,12 +86,12 @@ same-length c =
 returns : tie.Need-returns Inv-loop μ-loop
 returns c =
     let turn = c .before in
-    let start = turn .before .before .before in
-    let a = start .args in
+    let entry = turn .before .before .before in
+    let a = entry .args in
     let l = turn .loop in
     let e : l .k ≡ sectorCount = omega arith in
     let g : Written (a .current) (a .block .now) (a .out .now) sectorCount (l .w) (l .out) = rw e at (l .inv .1) in
-    (g .next, written-all (a .current) (a .block .now) (a .out .now) (l .w) (l .out) (start .pre .1) g)
+    (g .next, written-all (a .current) (a .block .now) (a .out .now) (l .w) (l .out) (entry .pre .1) g)
 
 pub write-sectors-spec : {M : Type 1} → statement M
 write-sectors-spec =
