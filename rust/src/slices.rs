@@ -77,13 +77,21 @@ pub fn write_sector(record: &mut Record, bytes: &[u8], out: &mut [u8]) -> Result
 /// none where the run begins. `record` becomes the one after the sixteenth of these sectors.
 ///
 /// ```
-/// use chamanzil::{slices, Record, Refusal, BLOCK_STREAM, MAIN};
-/// let (main, mut stream, mut record) = (vec![0; MAIN], vec![0; 2 * BLOCK_STREAM], Record::new());
-/// let (one, two) = stream.split_at_mut(BLOCK_STREAM);
-/// slices::write_block(&mut record, None, &main, 0, 0, one)?;
-/// slices::write_block(&mut record, Some(0), &main, 16, 0, two)?;
-/// assert_eq!(record.sectors, 32);
-/// assert_eq!(slices::write_block(&mut record, Some(16), &main, 16, 0, two), Err(Refusal::Sequence));
+/// use chamanzil::{read_block, slices, Record, Refusal, BLOCK_STREAM, CLOSING, MAIN, STREAM};
+/// let (main, mut record) = (vec![7; MAIN], Record::new());
+/// let mut stream = vec![0; 2 * BLOCK_STREAM + CLOSING];
+/// let (one, rest) = stream.split_at_mut(BLOCK_STREAM);
+/// let (two, closing) = rest.split_at_mut(BLOCK_STREAM);
+/// slices::write_block(&mut record, None, &main, 0x03_0000, 0, one)?;
+/// let refused = slices::write_block(&mut record, Some(0x03_0000), &main, 0x03_0000, 0, two);
+/// assert_eq!((refused, record.sectors), (Err(Refusal::Sequence), 16));
+/// slices::write_block(&mut record, Some(0x03_0000), &main, 0x03_0010, 0, two)?;
+/// slices::close(&mut record, closing)?;
+///
+/// for (k, first) in [0x03_0000, 0x03_0010].into_iter().enumerate() {
+///     let read = read_block(stream[k * BLOCK_STREAM..][..STREAM].try_into().unwrap())?;
+///     assert_eq!((&read.main[..], read.first), (&main[..], first));
+/// }
 /// # Ok::<(), Refusal>(())
 /// ```
 ///

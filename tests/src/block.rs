@@ -70,9 +70,12 @@ pub fn recorded(i: usize) -> usize {
     }
 }
 
-/// Whether a block may come after the one with this first number, or begin a run (document 02, request 1). The sum is not taken modulo 2^32.
+/// Whether a block may come after the one with the previous first number, or begin a run (document 02, request 1). The sum does not wrap.
 pub fn follows(previous: Option<u32>, first: u32) -> bool {
-    previous.map_or(true, |p| p as u64 + 16 == first as u64)
+    match previous {
+        None => true,
+        Some(before) => before as u64 + 16 == first as u64,
+    }
 }
 
 /// Refusals 1, 2, 3 and 10, or none.

@@ -248,8 +248,8 @@ pub fn one_damaged(report: &mut Report, random: &mut Random, t: &Tables, reader:
     report.end();
 }
 
-/// The last sector of block k as the library reads it: every byte but the last is right, the last one too unless bit 15 or 3 of the half word after it changed, and
-/// no SYNC place is lost, since the code after a block is not its own. Whether the last byte changed.
+/// The last sector of block k as the library reads it: every byte but the last is right, the last one too unless bit 15 or 3 of the half word after it changed,
+/// and no SYNC place is lost, since the code after a block is not its own. Whether the last byte changed.
 fn last_sector(report: &mut Report, run: &Chosen, stream: &[u8], k: usize, pattern: u32) -> bool {
     let (mut bytes, mut tallies) = (vec![0xA5; SECTOR], [9; 2]);
     let answer = library::read_sector(&part(stream, k)[15 * LAID..][..LAID + 2], &mut bytes, &mut tallies);
@@ -286,10 +286,10 @@ pub fn seams(report: &mut Report, random: &mut Random, t: &Tables, reader: &Read
     let mut changed = [0; 2];
     for _ in 0..50 {
         let run = Chosen::random(random, t, 2);
-        for k in 0..2 {
+        for (k, count) in changed.iter_mut().enumerate() {
             let others = [u32::MAX, 0xFFFF_0000, random.next() as u32, random.next() as u32];
             let patterns = (0..32).map(|bit| 1 << bit).chain(others);
-            changed[k] += patterns.filter(|&pattern| seam(report, random, reader, &run, k, pattern)).count();
+            *count += patterns.filter(|&pattern| seam(report, random, reader, &run, k, pattern)).count();
         }
         if changed.iter().all(|&n| n > 0) {
             break;
