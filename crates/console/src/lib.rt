@@ -56,8 +56,8 @@ pub fn write_block(
     out: &mut [u8],
 ) -> Formatted
     ensures { λ r. ⌜ formattedNumber r
-        ≡ writeBlockRefusal (now (kept .entry)) previous (length (now (main .entry))) (length (now (out .entry)))
-        first info ⌝ }
+        ≡ writeBlockRefusal (now (kept .entry)) previous
+        (length (now (main .entry))) (length (now (out .entry))) first info ⌝ }
     ensures { λ r. ⌜ now (kept .exit)
         ≡ writeBlockNext (now (kept .entry)) previous (now (main .entry)) first info (length (now (out .entry))) ⌝ }
     ensures { λ r. ⌜ now (out .exit)

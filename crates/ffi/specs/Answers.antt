@@ -1,17 +1,25 @@
--- The numbers that the functions of the C boundary answer with, and what a lent buffer holds afterwards. One number space: 0 where all is done, below 256 the
--- refusals, which are the documents' numbers, and from 256 on what became of a word that was no code word, so that none is taken for another.
+-- What the functions of the C boundary are told, the numbers that they answer with, and what a lent buffer holds afterwards. One number space: 0 where all is done,
+-- below 256 the refusals, which are the documents' numbers, and from 256 on what became of a word that was no code word, so that none is taken for another.
+--   previousOf                                  the block before, as C tells it
 --   corrected, uncorrectable, outcomeNumber     the outcomes of a word
 --   sized, doneOr1, heldAfter                   a function that fills a buffer, or refuses
 --   wordRepairNumber, wordRepairBytes           the repair of a word
 -- Assumes nothing.
-use mathlib.Core.Bool.{Bool, cond}
+use mathlib.Core.Bool.{Bool, true, false, cond}
 use mathlib.Core.List.{List}
 use Prim.Native.Nat.{ℕ}
 use lib.Dec.{eqb}
 use lib.ListN.{length}
+use Rattle.eccblock.specs.declared.Previous.{Previous}
+use Rattle.eccblock.specs.declared.Previous.the-variants.{None, First}
 use Rattle.codes.specs.declared.Outcome.{Outcome}
 use Rattle.codes.specs.declared.Outcome.the-variants.{Clean, Corrected, Uncorrectable}
 use Rattle.codes.specs.Nearest.{nearest, outcomeOf}
+
+-- the block before: none, or the one with that first number, which counts only where a block comes before
+abbrev pub previousOf : Bool → ℕ → Previous
+previousOf false first = None
+previousOf true first = First first
 
 -- a buffer has n bytes
 abbrev pub sized : ℕ → List ℕ → Bool

@@ -1,5 +1,5 @@
-// The C boundary, for C (include/), Rust (rust/), tests and benchmarks: numbers, byte slices and the writer's record. A `&[u8]` passes as a pointer and a length, a
-// `&mut Record` as a pointer. No function has a `requires`: a buffer of another length than stated gets refusal 1 (document 01) and everything is left as it was.
+// The C boundary, for C (include/), Rust (rust/), tests and benchmarks: numbers, bools, byte slices and the writer's record. A `&[u8]` passes as a pointer and a length,
+// a `&mut Record` as a pointer. No function has a `requires`: a buffer of another length than stated gets refusal 1 (document 01) and everything is left as it was.
 mod blocks;
 mod codewords;
 mod readers;
@@ -20,6 +20,7 @@ pub use readers::chamanzil_read_sector;
 pub use readers::chamanzil_repair_block;
 pub use session::chamanzil_close;
 pub use session::chamanzil_new_record;
+pub use session::chamanzil_write_block;
 pub use session::chamanzil_write_sector;
 pub use words::chamanzil_read_word;
 pub use words::chamanzil_zero_runs_hold;

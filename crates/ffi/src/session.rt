@@ -1,8 +1,10 @@
-// The writer, through the console: the record is the caller's, who keeps it for as long as the writer runs and lends it to each call.
+// The writer, through the console: the record is the caller's, who keeps it for a whole run of blocks and lends it to each call.
 ghost use mathlib.Core.Path.{_≡_};
 ghost use lib.ListN.{length};
 ghost use Rattle.writer.specs.Records.{start};
 ghost use Rattle.writer.specs.Answers.{sectorRefusal, sectorNext, sectorOut, closingRefusal, closingNext, closingOut};
+ghost use Rattle.formatter.specs.Formatter.{writeBlockRefusal, writeBlockNext, writeBlockOut};
+ghost use Rattle.ffi.specs.Answers.{previousOf};
 use writer::Record;
 
 // A new record, whatever the old one was.
@@ -24,6 +26,33 @@ pub extern "C" fn chamanzil_write_sector(kept: &mut Record, bytes: &[u8], out: &
 {
     let answer = console::write(kept, bytes, out);
     console::answer_number(answer)
+}
+
+// A whole block of the run: 32,768 main data bytes, laid as 77,376; 0, or refusal 1, 2, 3, 10, 9 or 7. `follows` says whether a block comes before, and `previous`
+// is that block's first number, which counts only then.
+#[no_mangle]
+pub extern "C" fn chamanzil_write_block(
+    kept: &mut Record,
+    follows: bool,
+    previous: u32,
+    main: &[u8],
+    first: u32,
+    info: u8,
+    out: &mut [u8],
+) -> u32
+    ensures { λ r. ⌜ r
+        ≡ writeBlockRefusal (now (kept .entry)) (previousOf follows previous)
+        (length (now (main .entry))) (length (now (out .entry))) first info ⌝ }
+    ensures { λ r. ⌜ now (kept .exit)
+        ≡ writeBlockNext (now (kept .entry)) (previousOf follows previous)
+        (now (main .entry)) first info (length (now (out .entry))) ⌝ }
+    ensures { λ r. ⌜ now (out .exit)
+        ≡ writeBlockOut (now (kept .entry)) (previousOf follows previous)
+        (now (main .entry)) first info (now (out .entry)) ⌝ }
+{
+    let before = crate::blocks::previous_of(follows, previous);
+    let answer = console::write_block(kept, before, main, first, info, out);
+    formatter::formatted_number(answer)
 }
 
 // The closing code, 4 bytes; 0, or refusal 1, 7, 8 or 9.
