@@ -1,5 +1,6 @@
-// The C boundary, for C (include/), Rust (rust/), tests and benchmarks: numbers, bools, byte slices and the writer's record. A `&[u8]` passes as a pointer and a length,
-// a `&mut Record` as a pointer. No function has a `requires`: a buffer of another length than stated gets refusal 1 (document 01) and everything is left as it was.
+// The C boundary, for C (include/), Rust (rust/), tests and benchmarks: numbers, bools, byte slices and the writer's record. A `&[u8]` passes as a pointer and a
+// length, a `&mut Record` as a pointer. No function has a `requires`: a buffer of another length than stated gets refusal 1 (document 01) and everything is left as
+// it was.
 mod blocks;
 mod codewords;
 mod readers;
