@@ -30,7 +30,7 @@ use Rattle.writer.specs.declared.Record.{Record}
 use Rattle.writer.proofs.Calls.{BlockWritten, block-written, running-record, begins-start, begins-open, begins-more, closing-going}
 use Rattle.writer.proofs.Sound.{Open}
 use Rattle.formatter.specs.Formatter.{writeBlockRefusal, writeBlockNext, writeBlockOut, blockStream, formatRefusal, formattedBuffer}
-use Rattle.formatter.specs.Inner.{sectorRoom, recordNumber, madeRefusal}
+use Rattle.formatter.specs.Inner.{sectorRoom, recordNumber, madeRefusal, firstLaid}
 
 -- ---- the number
 
@@ -127,67 +127,69 @@ module _ (main : List ℕ) (first info : ℕ) (old : List ℕ) where
   unfolding formatRefusal formattedBuffer
   format-length-refused h = (rw (ne-eqb (length old) streamSize h), rw (ne-eqb (length old) streamSize h))
 
-  module _ (l : length old ≡ streamSize) (w : Record) (new-record : w ≡ start) where
+  -- from a new record and with no block before, what is refused is what the block maker refuses
+  pub first-number :
+      (x : ℕ) → length old ≡ streamSize → x ≡ writeBlockRefusal start None (length main) sectorsStream first info
+      → x ≡ formatRefusal (length main) (length old) first info
+  unfolding writeBlockRefusal formatRefusal
+  first-number x l e = e ∙ rw (eq-eqb (length old) streamSize l, start-taken) (itself (encodeRefusal None (length main) blockSize first info))
+
+  -- where nothing is refused the block maker takes the block
+  pub first-taken : writeBlockRefusal start None (length main) sectorsStream first info ≡ 0 → encodeRefusal None (length main) blockSize first info ≡ 0
+  unfolding writeBlockRefusal
+  first-taken e = sym (rw start-taken (itself (encodeRefusal None (length main) blockSize first info))) ∙ e
+
+  module _ (l : length old ≡ streamSize) where
     -- the part that is lent for the sectors
     abbrev part : List ℕ
     part = take sectorsStream old
 
-    part-length : length part ≡ sectorsStream
+    pub part-length : length part ≡ sectorsStream
     part-length = length-take-le sectorsStream old (omega arith)
 
-    -- from a new record and with no block before, what is refused is what the block maker refuses
-    pub one-number : (x : ℕ) → x ≡ writeBlockRefusal w None (length main) (length part) first info → x ≡ formatRefusal (length main) (length old) first info
-    unfolding writeBlockRefusal formatRefusal
-    one-number x e =
-        e
-        ∙ ap (λ (v : Record). writeBlockRefusal v None (length main) (length part) first info) new-record
-        ∙ rw (eq-eqb (length part) sectorsStream part-length, eq-eqb (length old) streamSize l, start-taken) (itself (encodeRefusal None (length main) blockSize first info))
+    number-at : writeBlockRefusal start None (length main) (length part) first info ≡ writeBlockRefusal start None (length main) sectorsStream first info
+    number-at = ap (λ (n : ℕ). writeBlockRefusal start None (length main) n first info) part-length
 
-    -- where nothing is refused the block maker takes the block
-    pub one-taken : writeBlockRefusal w None (length main) (length part) first info ≡ 0 → encodeRefusal None (length main) blockSize first info ≡ 0
-    unfolding formatRefusal
-    one-taken e = sym (rw (eq-eqb (length old) streamSize l)) ∙ sym (one-number 0 (sym e))
-
-    -- the stream keeps its length over the sectors
-    pub one-length : (new : List ℕ) → length new ≡ length part → length (new ++ drop sectorsStream old) ≡ streamSize
-    one-length new kept = length-append new (drop sectorsStream old) ∙ omega (arith, kept, part-length, length-drop sectorsStream old)
-
-    pub one-left :
-        (x : ℕ) (new : List ℕ) → (x ≡ 0 → ⊥) → x ≡ writeBlockRefusal w None (length main) (length part) first info
-        → new ≡ writeBlockOut w None main first info part → new ++ drop sectorsStream old ≡ formattedBuffer main first info old
+    -- a refusal leaves the stream
+    pub first-left :
+        (x : ℕ) (stream : List ℕ) → (x ≡ 0 → ⊥) → x ≡ writeBlockRefusal start None (length main) sectorsStream first info
+        → stream ≡ firstLaid main first info old → stream ≡ formattedBuffer main first info old
     unfolding formattedBuffer
-    one-left x new h e o =
-        ap (λ (xs : List ℕ). xs ++ drop sectorsStream old) (o ∙ sym (all-left w None main first info part x h e .1))
+    first-left x stream h e o =
+        o
+        ∙ ap (λ (xs : List ℕ). xs ++ drop sectorsStream old) (sym (all-left start None main first info part x h (e ∙ sym number-at) .1))
         ∙ take-append-drop sectorsStream old
-        ∙ rw (ne-eqb (formatRefusal (length main) (length old) first info) 0 (λ z. h (one-number x e ∙ z)))
+        ∙ rw (ne-eqb (formatRefusal (length main) (length old) first info) 0 (λ z. h (first-number x l e ∙ z)))
 
-    module _ (new : List ℕ) (next : Record) (taken : writeBlockRefusal w None (length main) (length part) first info ≡ 0) (ok : Accepted None main first info)
-        (o : new ≡ writeBlockOut w None main first info part) (n : next ≡ writeBlockNext w None main first info (length part)) (same : length new ≡ length part) where
+    module _ (stream : List ℕ) (next : Record) (taken : writeBlockRefusal start None (length main) sectorsStream first info ≡ 0) (ok : Accepted None main first info)
+        (o : stream ≡ firstLaid main first info old) (n : next ≡ writeBlockNext start None main first info sectorsStream) (same : length stream ≡ length old) where
       abbrev made : List ℕ
       made = block main first info
 
-      kept : length new ≡ sectorsStream
-      kept = same ∙ part-length
-
-      -- the stream after the sectors
-      abbrev stream : List ℕ
-      stream = new ++ drop sectorsStream old
-
       abbrev sectors : Stream
       sectors = sectorsOf (runningOf start) made sectorCount
+
+      abbrev laid : List ℕ
+      laid = packed (sectors .halves)
 
       wrote : BlockWritten start made (sectorRoom part)
       wrote =
           sectors-written start made part (begins-open (begins-start 1 (omega arith) (omega arith))) (block-length main first info ok) (block-bytes main first info ok) part-length
 
       next-is : next ≡ afterBlock start made
-      next-is = n ∙ sym (block-next w None main first info part taken) ∙ ap (λ (v : Record). afterBlock v made) new-record
+      next-is =
+          n ∙ ap (writeBlockNext start None main first info) (sym part-length) ∙ sym (block-next start None main first info part (number-at ∙ taken))
 
-      new-is : new ≡ packed (sectors .halves)
-      new-is = o ∙ sym (block-out w None main first info part taken) ∙ ap (λ (v : Record). packed (sectorsOf (runningOf v) made sectorCount .halves)) new-record
+      stream-is : stream ≡ laid ++ drop sectorsStream old
+      stream-is = o ∙ ap (λ (xs : List ℕ). xs ++ drop sectorsStream old) (sym (block-out start None main first info part (number-at ∙ taken)))
+
+      laid-length : length laid ≡ sectorsStream
+      laid-length =
+          let rest = drop sectorsStream old in
+          omega (arith, ap length stream-is ∙ length-append laid rest, length-drop sectorsStream old, same)
 
       rest-is : drop sectorsStream stream ≡ drop sectorsStream old
-      rest-is = drop-at new (drop sectorsStream old) sectorsStream kept
+      rest-is = ap (drop sectorsStream) stream-is ∙ drop-at laid (drop sectorsStream old) sectorsStream laid-length
 
       rest-length : length (drop sectorsStream old) ≡ closingSize
       rest-length = length-drop sectorsStream old ∙ omega arith
@@ -203,14 +205,16 @@ module _ (main : List ℕ) (first info : ℕ) (old : List ℕ) where
           ∙ closing-going (afterBlock start made) (λ j k. []) rest (begins-more (begins-start 1 (omega arith) (omega arith)) wrote) rest-length .stream
           ∙ ap (λ (r : Running). packed (closingOf r .halves)) (running-record (sectors .running) sectorCount false)
 
-      pub one-closed :
+      -- the closing code after the sectors
+      pub first-closed :
           (end : List ℕ) → end ≡ closingOut next (take closingSize (drop sectorsStream stream))
           → take sectorsStream stream ++ (end ++ drop closingSize (drop sectorsStream stream)) ≡ formattedBuffer main first info old
       unfolding formattedBuffer blockStream runOf
-      one-closed end e =
+      first-closed end e =
           let nothing : drop closingSize (drop sectorsStream stream) ≡ [] =
           ap₂ drop (sym rest-length) rest-is ∙ drop-length (drop sectorsStream old) in
-          ap₂ (λ (x y : List ℕ). x ++ (end ++ y)) (take-at new (drop sectorsStream old) sectorsStream kept ∙ new-is) nothing
-          ∙ ap (λ (x : List ℕ). packed (sectors .halves) ++ x) (append-nil end ∙ e ∙ closing-is)
+          let head : take sectorsStream stream ≡ laid = ap (take sectorsStream) stream-is ∙ take-at laid (drop sectorsStream old) sectorsStream laid-length in
+          ap₂ (λ (x y : List ℕ). x ++ (end ++ y)) head nothing
+          ∙ ap (λ (x : List ℕ). laid ++ x) (append-nil end ∙ e ∙ closing-is)
           ∙ sym (packed-append (sectors .halves) (closingOf (sectors .running) .halves))
-          ∙ rw (eq-eqb (formatRefusal (length main) (length old) first info) 0 (sym (one-number 0 (sym taken))))
+          ∙ rw (eq-eqb (formatRefusal (length main) (length old) first info) 0 (sym (first-number 0 l (sym taken))))

@@ -1,18 +1,22 @@
 -- The vocabulary of inner contracts: the parts of a stream buffer that are lent to the writer (sectorRoom), the writer's answer on a block's record as the
--- formatter's (recordNumber), and what is refused but for the length of the stream buffer (madeRefusal). Nobody needs to believe it.
+-- formatter's (recordNumber), what is refused but for the length of the stream buffer (madeRefusal), and a stream with its first block laid (firstLaid). Nobody
+-- needs to believe it.
 -- Assumes nothing.
 use mathlib.Core.Bool.{cond}
-use mathlib.Core.List.{List}
+use mathlib.Core.List.{List, _++_}
 use Prim.Native.Nat.{ℕ, _*_}
 use lib.Dec.{eqb}
 use lib.ListN.{take, drop}
 use Rattle.eccblock.specs.Encode.{encodeRefusal}
 use Rattle.eccblock.specs.declared.Previous.{Previous}
-use Rattle.layout.specs.Lengths.{blockSize, sectorStream}
+use Rattle.eccblock.specs.declared.Previous.the-variants.{None}
+use Rattle.layout.specs.Lengths.{blockSize, sectorStream, sectorsStream}
 use Rattle.writer.specs.Answers.{blockRefusal}
 use Rattle.writer.specs.declared.Answer.{Answer}
 use Rattle.writer.specs.declared.Answer.the-variants.{Done, LengthRefused, RunEnded, RunUnfinished, BadRecord}
+use Rattle.writer.specs.Records.{start}
 use Rattle.writer.specs.declared.Record.{Record}
+use Rattle.formatter.specs.Formatter.{writeBlockOut}
 
 -- for sector k
 abbrev pub sectorRoom : List ℕ → ℕ → List ℕ
@@ -29,3 +33,7 @@ recordNumber BadRecord = 9
 abbrev pub madeRefusal : Record → Previous → ℕ → ℕ → ℕ → ℕ
 madeRefusal w previous n first info =
     cond (eqb (encodeRefusal previous n blockSize first info) 0) (blockRefusal w) (encodeRefusal previous n blockSize first info)
+
+-- a stream buffer whose head is lent for the sectors of a run's first block
+abbrev pub firstLaid : List ℕ → ℕ → ℕ → List ℕ → List ℕ
+firstLaid main first info old = writeBlockOut start None main first info (take sectorsStream old) ++ drop sectorsStream old

@@ -6,9 +6,11 @@ ghost use mathlib.Core.Path.{_≡_};
 ghost use lib.ListN.{length};
 ghost use Rattle.eccblock.specs.Encode.{encodeNumber, encodedBuffer};
 ghost use Rattle.writer.specs.Session.{sectorCalls};
-ghost use Rattle.layout.specs.Lengths.{sectorCount, blockSize, sectorsStream};
+ghost use Rattle.eccblock.specs.declared.Previous.the-variants.{None};
+ghost use Rattle.writer.specs.Records.{start};
+ghost use Rattle.layout.specs.Lengths.{sectorCount, blockSize, sectorsStream, streamSize};
 ghost use Rattle.formatter.specs.Formatter.{formattedNumber, writeBlockRefusal, writeBlockNext, writeBlockOut, formatRefusal, formattedBuffer};
-ghost use Rattle.formatter.specs.Inner.{sectorRoom, recordNumber, madeRefusal};
+ghost use Rattle.formatter.specs.Inner.{sectorRoom, recordNumber, madeRefusal, firstLaid};
 use eccblock::Encoded;
 use eccblock::Previous;
 pub use hexadecimal::hex_number;
@@ -173,6 +175,25 @@ pub fn write_block(
 
 // ---- the run of one block
 
+// The sectors of the block at the head of a stream, from a new record and with no block before.
+fn write_first(main: &[u8], first: u32, info: u8, out: &mut [u8]) -> BlockStep
+    requires { ⌜ length (now out) ≡ streamSize ⌝ }
+    ensures { λ r. ⌜ formattedNumber (r .answer)
+        ≡ writeBlockRefusal start None (length (now (main .entry))) sectorsStream first info ⌝ }
+    ensures { λ r. ⌜ r .next ≡ writeBlockNext start None (now (main .entry)) first info sectorsStream ⌝ }
+    ensures { λ r. ⌜ now (out .exit) ≡ firstLaid (now (main .entry)) first info (now (out .entry)) ⌝ }
+{
+    let start = writer::new();
+    write_block(
+        start,
+        Previous::None,
+        main,
+        first,
+        info,
+        &mut out[0..SECTORS_STREAM],
+    )
+}
+
 // 32,768 main data bytes to a stream of 77,380. Where a number applies, the buffer is left as it was.
 pub fn format_block(main: &[u8], first: u32, info: u8, out: &mut [u8]) -> Formatted
     ensures { λ r. ⌜ formattedNumber r
@@ -182,14 +203,7 @@ pub fn format_block(main: &[u8], first: u32, info: u8, out: &mut [u8]) -> Format
     if out.len() != STREAM_SIZE {
         return Formatted::LengthRefused;
     }
-    let step = write_block(
-        writer::new(),
-        Previous::None,
-        main,
-        first,
-        info,
-        &mut out[0..SECTORS_STREAM],
-    );
+    let step = write_first(main, first, info, out);
     let answer = step.answer;
     if formatted_number(answer) != 0 {
         return answer;
