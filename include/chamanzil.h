@@ -4,7 +4,8 @@
  * anything undefined, and to return; the contracts cite definitions taken from the standard and from documents 01 and 02. This file repeats them in words.
  *
  * Buffers. A buffer is two arguments: a pointer to its first byte and its length. A pointer is never NULL, not even where the length is 0. A buffer that is
- * written (no `const`) overlaps no other argument; nor does a record. What was written is all of a buffer or nothing: no call leaves a half-filled buffer.
+ * written (no `const`) overlaps no other argument; nor does a record. What was written is all of a buffer or nothing: no call leaves a half-filled buffer. A `bool`
+ * is 0 or 1 and nothing else.
  *
  * Answers. 0: done. 1 to 10: refused, by the numbers below, and then every buffer and record is as it was, except where a function says otherwise. Where
  * several numbers apply, the lowest is given, but 10 goes right after 3, and 9 before 7 and 8. Where none applies, nothing is refused. Every refusal is below

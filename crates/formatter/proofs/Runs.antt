@@ -4,7 +4,7 @@
 use mathlib.Core.Bool.{Bool, true, false, cond}
 use mathlib.Core.List.{List, [], _∷_, _++_}
 use mathlib.Core.Path.{_≡_, refl, sym, ap, ap₂, subst, _∙_}
-use Prim.Native.Nat.{ℕ, suc, _+_, _*_, _<_, _≤_}
+use Prim.Native.Nat.{ℕ, suc, _+_, _*_, _<_}
 use native.Mathlib.Omega.{arith}
 use borrow.Author.Tests.{eq-eqb, eqb-true}
 use lib.Dec.{T, eqb}
@@ -12,10 +12,10 @@ use lib.ListN.{length, replicate, length-replicate}
 use Rattle.lists.specs.Bytes.{Bytes}
 use Rattle.bytes.specs.Halves.{packed}
 use Rattle.bytes.proofs.Halves.{packed-append}
-use Rattle.layout.specs.Lengths.{blockSize, sectorCount, sectorsStream, closingSize}
+use Rattle.layout.specs.Lengths.{sectorCount, sectorsStream, closingSize}
 use Rattle.channel.specs.Block.{permittedRun, runStream}
 use Rattle.eccblock.specs.Block.{block}
-use Rattle.eccblock.specs.Encode.{encodeRefusal, Accepted}
+use Rattle.eccblock.specs.Encode.{Accepted}
 use Rattle.eccblock.specs.Run.{BlockInput, AcceptedRun, madeBlock, runBlocks}
 use Rattle.eccblock.specs.declared.Previous.{Previous}
 use Rattle.eccblock.specs.declared.Previous.the-variants.{None, First}
@@ -29,7 +29,7 @@ use Rattle.writer.specs.Session.{runCalls, NoneRefused, Handed}
 use Rattle.writer.specs.declared.Record.{Record}
 use Rattle.writer.proofs.Calls.{running-record, handed-calls, Begins, begins-start, begins-open, begins-more, closing-going}
 use Rattle.writer.proofs.Sound.{Open, block-opens, open-taken}
-use Rattle.formatter.specs.Formatter.{writeBlockRefusal, writeBlockNext, writeBlockOut}
+use Rattle.formatter.specs.Formatter.{writeBlockRefusal, writeBlockNext}
 use Rattle.formatter.specs.Inner.{sectorRoom, madeRefusal}
 use Rattle.formatter.specs.Session.{blockCalls, BlocksTaken}
 use Rattle.formatter.proofs.Answers.{neither-refuses, block-next, block-out, sectors-written}

@@ -11,7 +11,7 @@ use lib.ListN.{length}
 use Rattle.lists.specs.Bytes.{Bytes}
 use Rattle.layout.specs.Lengths.{streamSize, closingSize}
 use Rattle.layout.specs.Sectors.{blockPart, runSize}
-use Rattle.channel.specs.Block.{Blocks, permittedRun, runStream, permittedStream, heavyRows}
+use Rattle.channel.specs.Block.{permittedRun, runStream, permittedStream, heavyRows}
 use Rattle.eccblock.specs.Block.{block}
 use Rattle.eccblock.specs.Encode.{Accepted}
 use Rattle.eccblock.specs.Run.{BlockInput, AcceptedRun, runBlocks}

@@ -1,7 +1,6 @@
 -- `writer::refusal::closes_at` meets its contract.
 -- Assumes nothing.
 use mathlib.Core.Path.{refl}
-use borrow.Author.Needs.{needs}
 use borrow.Author.Tests.{le-leb, lt-leb}
 use Rattle.writer.proofs.refusal.closes_at.Statement.{statement}
 use Rattle.writer.proofs.refusal.closes_at.Tie as tie
