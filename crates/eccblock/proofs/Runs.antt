@@ -1,13 +1,14 @@
--- Blocks of a run: accepted-any (each is accepted alone too), run-length-fits (the first numbers grow by 16 a block, so that a run has at most 16,777,216 sectors).
+-- Blocks of a run: accepted-any (each is accepted alone too), run-length-fits (the first numbers grow by 16 a block, so that a run has at most 16,777,216 sectors),
+-- zero-after-the-highest≡10 (the sum does not wrap).
 -- Assumes nothing.
-use mathlib.Core.Path.{refl, sym, _∙_}
+use mathlib.Core.Path.{_≡_, refl, sym, _∙_}
 use mathlib.Core.List.{List, [], _∷_}
 use Prim.Native.Nat.{ℕ, _+_, _*_, _≤_}
 use native.Mathlib.Omega.{arith}
 use borrow.Author.Tests.{eqb-true}
 use lib.ListN.{length}
-use Rattle.layout.specs.Lengths.{blockSize, lastFirst, runSectors}
-use Rattle.eccblock.specs.Encode.{Accepted}
+use Rattle.layout.specs.Lengths.{mainSize, blockSize, lastFirst, runSectors}
+use Rattle.eccblock.specs.Encode.{encodeRefusal, Accepted}
 use Rattle.eccblock.specs.Run.{BlockInput, AcceptedRun}
 use Rattle.eccblock.specs.declared.Previous.{Previous}
 use Rattle.eccblock.specs.declared.Previous.the-variants.{None, First}
@@ -36,3 +37,8 @@ pub run-length-fits : (is : List BlockInput) → AcceptedRun None is → 16 * le
 unfolding AcceptedRun
 run-length-fits [] ok = omega arith
 run-length-fits (i ∷ is) (ok, oks) = omega (arith, after-fits (i .first) is (accepted-facts (i .main) (i .first) (i .info) ok .small) oks)
+
+-- 4,294,967,280 plus 16 is 2^32, and not 0
+pub zero-after-the-highest≡10 : encodeRefusal (First 4294967280) mainSize blockSize 0 0 ≡ 10
+unfolding encodeRefusal
+zero-after-the-highest≡10 = refl

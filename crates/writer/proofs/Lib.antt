@@ -3,3 +3,4 @@ pub mod Signed
 pub mod Sound
 pub mod Numbers
 pub mod Calls
+pub mod Examples
