@@ -88,14 +88,14 @@ pub record HandedOut (main : List ℕ) (first : ℕ) (xs : List ℕ) : Type 0 wh
 pub record Demand3 : Type 0 where
   -- any blocks of 37,856 bytes, laid by any permitted choices
   pub zero-runs : (run : List (List ℕ)) (cs : List Bool) → Blocks run → T (permittedRun run cs) → ZeroRunsFit (runStream run cs)
-  -- any accepted run, laid by any permitted choices, and any bytes xs read in place of its stream: its block i, with `before` before it and `after` after it, while
-  -- at most 8 of the block's rows are heavy
+  -- any accepted run, laid by any permitted choices, and any bytes xs read in place of its stream: block k of the run, made of the input i, with k blocks before it,
+  -- while at most 8 of its rows are heavy
   pub back : (before : List BlockInput) (i : BlockInput) (after : List BlockInput)
       → let run = before ++ i ∷ after in
-      let part : List ℕ → List ℕ = λ ys. blockPart ys (length before) in
+      let k = length before in
       AcceptedRun None run → (cs : List Bool) → T (permittedRun (runBlocks run) cs)
-      → (xs : List ℕ) → length xs ≡ runSize (length run) → Bytes xs → heavyRows (part (runStream (runBlocks run) cs)) (part xs) ≤ 8
-      → HandedOut (i .main) (i .first) (part xs)
+      → (xs : List ℕ) → length xs ≡ runSize (length run) → Bytes xs → heavyRows (blockPart (runStream (runBlocks run) cs) k) (blockPart xs k) ≤ 8
+      → HandedOut (i .main) (i .first) (blockPart xs k)
 
 -- the same of one block, with the closing code after it
 pub record Demand3Block : Type 0 where
