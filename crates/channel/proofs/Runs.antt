@@ -12,7 +12,7 @@ use lib.Seq.{take-at, drop-append-add}
 use Rattle.annexg.specs.Read.{State}
 use Rattle.bytes.specs.Halves.{packed}
 use Rattle.bytes.proofs.Halves.{packed-length, packed-append}
-use Rattle.layout.specs.Lengths.{blockFrames, sectorsStream, streamSize}
+use Rattle.layout.specs.Lengths.{frameHalves, blockFrames, sectorsStream, streamSize}
 use Rattle.layout.specs.Sectors.{codeOf, frameCodes, blockPart, runSize}
 use Rattle.channel.specs.Block.{frames, Blocks, runItems, blockItems, closed, permittedRun, runStream}
 use Rattle.channel.specs.Channel.{Item, sync, permitted, stream, stateAfter, lastAfter, place, allProper}
@@ -37,7 +37,8 @@ unfolding runItems frames codeOf frameCodes
 run-head [] = record { tail = []; is = refl }
 run-head (b ∷ run) = record { tail = _; is = refl }
 
-run-halves : (run : List (List ℕ)) → Blocks run → halves (runItems run) ≡ 38688 * length run + 2
+-- the half words of a run: those of its frames, and the closing code's two
+run-halves : (run : List (List ℕ)) → Blocks run → halves (runItems run) ≡ frameHalves * blockFrames * length run + 2
 unfolding runItems Blocks
 run-halves [] h = unfold halves place in refl
 run-halves (b ∷ run) h = omega (arith, halves-frames blockFrames 0 b (runItems run) (h .0 .0), run-halves run (h .1))
@@ -61,7 +62,7 @@ frames-length : (s l : ℕ) (b : List ℕ) (cs : List Bool) → Blocks (b ∷ []
 unfolding Blocks halves place
 frames-length s l b cs h p =
     let items = frames 0 blockFrames b in
-    let size : halves items ≡ 38688 + 0 = ap halves (sym (append-nil items)) ∙ halves-frames blockFrames 0 b [] (h .0 .0) in
+    let size : halves items ≡ frameHalves * blockFrames + 0 = ap halves (sym (append-nil items)) ∙ halves-frames blockFrames 0 b [] (h .0 .0) in
     omega (arith, packed-length (stream s items cs), stream-length s l items cs p, size)
 
 first-part :
