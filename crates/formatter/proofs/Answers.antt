@@ -3,7 +3,7 @@
 use mathlib.Core.Bool.{Bool, true, false, cond}
 use mathlib.Core.List.{List, [], _++_, append-nil}
 use mathlib.Core.Path.{_≡_, refl, sym, ap, ap₂, _∙_}
-use Prim.Native.Nat.{ℕ, zero, suc, _*_}
+use Prim.Native.Nat.{ℕ, zero, suc, _*_, _<_}
 use native.Mathlib.Omega.{arith}
 use borrow.Author.Tests.{eq-eqb, ne-eqb, eqb-true}
 use lib.Dec.{eqb}
@@ -104,12 +104,14 @@ pub block-made :
 unfolding encodedBuffer
 block-made previous main first info was e = rw (eq-eqb (encodeRefusal previous (length main) (length was) first info) 0 e)
 
--- the parts that are lent have the writer's lengths, so that the sixteen sectors are written
+-- the parts that are lent have the writer's lengths,
+pub sector-room : (old : List ℕ) → length old ≡ sectorsStream → (k : ℕ) → k < sectorCount → length (sectorRoom old k) ≡ sectorStream
+sector-room old h k m = length-take-le sectorStream (drop (sectorStream * k) old) (omega (arith, length-drop (sectorStream * k) old))
+
+-- so that the sixteen sectors are written
 pub sectors-written : (w : Record) (bs old : List ℕ) → Open w sectorCount → length bs ≡ blockSize → Bytes bs → length old ≡ sectorsStream
     → BlockWritten w bs (sectorRoom old)
-sectors-written w bs old o l b h =
-    block-written w bs (sectorRoom old) o l b
-    (λ k m. length-take-le sectorStream (drop (sectorStream * k) old) (omega (arith, length-drop (sectorStream * k) old)))
+sectors-written w bs old o l b h = block-written w bs (sectorRoom old) o l b (sector-room old h)
 
 -- ---- the run of one block
 

@@ -1,5 +1,6 @@
--- The blocks of an accepted run one after the other, and closing: none is refused, and their buffers hold a permitted stream of the run (run-formatted). And a
--- record that a block hands back is one that the writer hands back, so that it is never refused with 9 (block-handed).
+-- The blocks of an accepted run one after the other, and closing: they are the writer's calls over the same blocks (as-sectors), so that none is refused and their
+-- buffers hold a permitted stream of the run (run-formatted). Each block is of 37,856 bytes (accepted-blocks). And a record that a block hands back is one that the
+-- writer hands back, so that it is never refused with 9 (block-handed).
 -- Assumes nothing.
 use mathlib.Core.Bool.{Bool, true, false, cond}
 use mathlib.Core.List.{List, [], _∷_, _++_}
@@ -10,10 +11,8 @@ use borrow.Author.Tests.{eq-eqb, eqb-true}
 use lib.Dec.{T, eqb}
 use lib.ListN.{length, replicate, length-replicate}
 use Rattle.lists.specs.Bytes.{Bytes}
-use Rattle.bytes.specs.Halves.{packed}
-use Rattle.bytes.proofs.Halves.{packed-append}
 use Rattle.layout.specs.Lengths.{sectorCount, sectorsStream, closingSize}
-use Rattle.channel.specs.Block.{permittedRun, runStream}
+use Rattle.channel.specs.Block.{Blocks, permittedRun, runStream}
 use Rattle.eccblock.specs.Block.{block}
 use Rattle.eccblock.specs.Encode.{Accepted}
 use Rattle.eccblock.specs.Run.{BlockInput, AcceptedRun, madeBlock, runBlocks}
@@ -21,18 +20,16 @@ use Rattle.eccblock.specs.declared.Previous.{Previous}
 use Rattle.eccblock.specs.declared.Previous.the-variants.{None, First}
 use Rattle.eccblock.proofs.Laws.{block-length, block-bytes}
 use Rattle.eccblock.proofs.Runs.{run-length-fits}
-use Rattle.levels.specs.declared.Running.{Running}
-use Rattle.streams.specs.Frames.{sectorsOf, runOf, choicesOf}
-use Rattle.streams.proofs.Frames.{run-permitted, run-stream}
+use Rattle.streams.specs.Frames.{runOf, choicesOf}
 use Rattle.writer.specs.Records.{start, runningOf, recordOf, afterBlock}
-use Rattle.writer.specs.Session.{runCalls, NoneRefused, Handed}
+use Rattle.writer.specs.Session.{Session, runCalls, NoneRefused, Handed}
 use Rattle.writer.specs.declared.Record.{Record}
-use Rattle.writer.proofs.Calls.{running-record, handed-calls, Begins, begins-start, begins-open, begins-more, closing-going}
+use Rattle.writer.proofs.Calls.{handed-calls, Begins, begins-start, begins-open, begins-more, closing-going, run-written}
 use Rattle.writer.proofs.Sound.{Open, block-opens, open-taken}
 use Rattle.formatter.specs.Formatter.{writeBlockRefusal, writeBlockNext}
 use Rattle.formatter.specs.Inner.{sectorRoom, madeRefusal}
 use Rattle.formatter.specs.Session.{blockCalls, BlocksTaken}
-use Rattle.formatter.proofs.Answers.{neither-refuses, block-next, block-out, sectors-written}
+use Rattle.formatter.proofs.Answers.{neither-refuses, block-next, block-out, sector-room, sectors-written}
 
 -- ---- a run
 
@@ -42,48 +39,56 @@ block-taken :
 unfolding writeBlockRefusal
 block-taken w previous i m o ok l = rw (eq-eqb m sectorsStream l, ok .taken) (open-taken w o)
 
--- the calls over a run and for closing from the record w: none is refused, and what they leave is what the rule over the run says, the record closed
-record BlocksGoing (w : Record) (previous : Previous) (is : List BlockInput) (outs : ℕ → List ℕ) (end : List ℕ) : Type 0 where
-  refusals : BlocksTaken w previous is outs end
-  stream : blockCalls w previous is outs end .bytes ≡ packed (runOf (runningOf w) (runBlocks is) .halves)
-  next : blockCalls w previous is outs end .next ≡ recordOf (runOf (runningOf w) (runBlocks is) .running) (w .sectors + sectorCount * length is) true
-
 -- the buffers lent for n blocks have the stated length
 abbrev pub BlockRooms : (ℕ → List ℕ) → ℕ → Type 0
 BlockRooms outs n = (k : ℕ) → k < n → length (outs k) ≡ sectorsStream
 
-blocks-going :
+-- the parts of them that are lent to the writer, sector by sector
+abbrev rooms : (ℕ → List ℕ) → ℕ → ℕ → List ℕ
+rooms outs j = sectorRoom (outs j)
+
+-- the calls for the blocks of a run and for closing from the record w: none is refused, and they are the writer's over the same blocks, in the same buffers
+record AsSectors (w : Record) (previous : Previous) (is : List BlockInput) (outs : ℕ → List ℕ) (end : List ℕ) : Type 0 where
+  refusals : BlocksTaken w previous is outs end
+  same : blockCalls w previous is outs end ≡ runCalls w (runBlocks is) (rooms outs) end
+
+as-sectors :
     (is : List BlockInput) (w : Record) (previous : Previous) (outs : ℕ → List ℕ) (end : List ℕ) → Begins w (length is) → AcceptedRun previous is
-    → BlockRooms outs (length is) → length end ≡ closingSize → BlocksGoing w previous is outs end
-unfolding AcceptedRun runBlocks BlocksTaken blockCalls runOf NoneRefused runCalls
-blocks-going [] w previous outs end b ok ho l =
-    let g = closing-going w (λ j k. []) end b l in
-    record { refusals = g .refusals; stream = g .stream; next = g .next }
-blocks-going (i ∷ is) w previous outs end b (ok, oks) ho l =
+    → BlockRooms outs (length is) → length end ≡ closingSize → AsSectors w previous is outs end
+unfolding AcceptedRun runBlocks BlocksTaken blockCalls NoneRefused runCalls
+as-sectors [] w previous outs end b ok ho l = record { refusals = closing-going w (rooms outs) end b l .refusals; same = refl }
+as-sectors (i ∷ is) w previous outs end b (ok, oks) ho l =
     let later : ℕ → List ℕ = λ k. outs (suc k) in
-    let made = madeBlock i in
     let size = ho 0 (omega arith) in
     let taken = block-taken w previous i (length (outs 0)) (begins-open b) ok size in
     let written =
-    sectors-written w made (outs 0) (begins-open b) (block-length (i .main) (i .first) (i .info) ok) (block-bytes (i .main) (i .first) (i .info) ok) size in
+    sectors-written w (madeBlock i) (outs 0) (begins-open b) (block-length (i .main) (i .first) (i .info) ok) (block-bytes (i .main) (i .first) (i .info) ok) size in
+    let out-is = sym (block-out w previous (i .main) (i .first) (i .info) (outs 0) taken) ∙ sym (written .stream) in
     let next-is = sym (block-next w previous (i .main) (i .first) (i .info) (outs 0) taken) in
-    let out-is = sym (block-out w previous (i .main) (i .first) (i .info) (outs 0) taken) in
-    let rest = blocks-going is (afterBlock w made) (First (i .first)) later end (begins-more b written) oks (λ k h. ho (suc k) (omega arith)) l in
-    let m = sectorsOf (runningOf w) made sectorCount in
-    let run = runBlocks is in
-    let from : runningOf (afterBlock w made) ≡ m .running = running-record (m .running) (w .sectors + sectorCount) (w .closed) in
-    let count : w .sectors + sectorCount + sectorCount * length is ≡ w .sectors + sectorCount * suc (length is) = omega arith in
+    let rest = as-sectors is (afterBlock w (madeBlock i)) (First (i .first)) later end (begins-more b written) oks (λ k h. ho (suc k) (omega arith)) l in
     record {
       refusals = (taken, subst (λ (v : Record). BlocksTaken v (First (i .first)) is later end) (sym next-is) (rest .refusals));
-      stream =
-          ap₂ (λ (u : List ℕ) (v : Record). u ++ blockCalls v (First (i .first)) is later end .bytes) out-is next-is
-          ∙ ap (λ (x : List ℕ). packed (m .halves) ++ x) (rest .stream ∙ ap (λ (r : Running). packed (runOf r run .halves)) from)
-          ∙ sym (packed-append (m .halves) (runOf (m .running) run .halves));
-      next =
-          ap (λ (v : Record). blockCalls v (First (i .first)) is later end .next) next-is
-          ∙ rest .next
-          ∙ ap₂ (λ (r : Running) (n : ℕ). recordOf (runOf r run .running) n true) from count;
+      same =
+          ap₂ (λ (u : List ℕ) (t : Session). record { bytes = u ++ t .bytes; next = t .next }) out-is
+          (ap (λ (v : Record). blockCalls v (First (i .first)) is later end) next-is
+          ∙ rest .same
+          ∙ ap (λ (v : Record). runCalls v (runBlocks is) (rooms later) end) (sym (written .next)));
     }
+
+-- ---- the blocks of an accepted run
+
+pub accepted-blocks : (previous : Previous) (is : List BlockInput) → AcceptedRun previous is → Blocks (runBlocks is)
+unfolding AcceptedRun runBlocks Blocks
+accepted-blocks previous [] ok = tt
+accepted-blocks previous (i ∷ is) (ok, oks) = (
+  (block-length (i .main) (i .first) (i .info) ok, block-bytes (i .main) (i .first) (i .info) ok),
+  accepted-blocks (First (i .first)) is oks,
+)
+
+pub blocks-length : (is : List BlockInput) → length (runBlocks is) ≡ length is
+unfolding runBlocks
+blocks-length [] = refl
+blocks-length (i ∷ is) = ap suc (blocks-length is)
 
 -- the blocks of a run and closing: none is refused, what their buffers hold then is the stream of permitted choices, and the record is that of the rule, closed
 pub record RunFormatted (is : List BlockInput) (outs : ℕ → List ℕ) (end : List ℕ) : Type 0 where
@@ -97,14 +102,21 @@ pub run-formatted :
     (is : List BlockInput) (outs : ℕ → List ℕ) (end : List ℕ) → 0 < length is → AcceptedRun None is → BlockRooms outs (length is) → length end ≡ closingSize
     → RunFormatted is outs end
 run-formatted is outs end some ok ho l =
-    let g = blocks-going is start None outs end (begins-start (length is) some (run-length-fits is ok)) ok ho l in
-    let count : 0 + sectorCount * length is ≡ sectorCount * length is = omega arith in
     let run = runBlocks is in
+    let n = blocks-length is in
+    let fits = run-length-fits is ok in
+    let a = as-sectors is start None outs end (begins-start (length is) some fits) ok ho l in
+    let w =
+    run-written run (rooms outs) end (omega arith) (omega (arith, fits)) (accepted-blocks None is ok)
+    (λ j k h m. sector-room (outs j) (ho j (omega arith)) k m) l in
     record {
-      refusals = g .refusals;
-      choices = run-permitted (runningOf start) run refl;
-      stream = g .stream ∙ run-stream (runningOf start) run refl;
-      next = g .next ∙ ap (λ (n : ℕ). recordOf (runOf (runningOf start) run .running) n true) count;
+      refusals = a .refusals;
+      choices = w .choices;
+      stream = ap (λ (s : Session). s .bytes) (a .same) ∙ w .stream;
+      next =
+          ap (λ (s : Session). s .next) (a .same)
+          ∙ w .next
+          ∙ ap (λ (x : ℕ). recordOf (runOf (runningOf start) run .running) (sectorCount * x) true) n;
     }
 
 -- ---- the record

@@ -22,8 +22,7 @@ use Rattle.streams.proofs.Frames.{run-permitted, run-stream}
 use Rattle.writer.specs.Records.{start, runningOf}
 use Rattle.formatter.specs.Formatter.{blockStream, formatRefusal, formattedBuffer}
 use Rattle.formatter.specs.Session.{blockCalls, BlocksTaken}
-use Rattle.formatter.proofs.Runs.{BlockRooms, run-formatted}
-use Rattle.theorems.proofs.Runs.{accepted-blocks}
+use Rattle.formatter.proofs.Runs.{BlockRooms, accepted-blocks, run-formatted}
 use Rattle.theorems.proofs.Demand.{ZeroRunsFit, HandedOut, demand3, demand3-block}
 use Rattle.theorems.proofs.Undamaged.{Undamaged, run-undamaged, block-undamaged}
 

@@ -1,10 +1,10 @@
--- The blocks of an accepted run: each is of 37,856 bytes (accepted-blocks) and accepted (accepted-at), and block k of a permitted stream of the run is that block,
--- laid as permitted choices lay it (run-part).
+-- The blocks of an accepted run: each is accepted (accepted-at), and block k of a permitted stream of the run is that block, laid as permitted choices lay it
+-- (run-part).
 -- Assumes nothing.
 use mathlib.Core.Path.{_≡_, refl, sym, ap, subst}
 use mathlib.Core.Bool.{Bool}
 use mathlib.Core.List.{List, [], _∷_, _++_}
-use Prim.Native.Nat.{ℕ, suc}
+use Prim.Native.Nat.{ℕ}
 use lib.Dec.{T}
 use lib.ListN.{length}
 use Rattle.layout.specs.Sectors.{blockPart}
@@ -12,19 +12,11 @@ use Rattle.eccblock.specs.Encode.{Accepted}
 use Rattle.eccblock.specs.Run.{BlockInput, AcceptedRun, madeBlock, runBlocks}
 use Rattle.eccblock.specs.declared.Previous.{Previous}
 use Rattle.eccblock.specs.declared.Previous.the-variants.{None, First}
-use Rattle.eccblock.proofs.Laws.{block-length, block-bytes}
 use Rattle.eccblock.proofs.Runs.{accepted-any}
 use Rattle.channel.specs.Block.{Blocks, permittedRun, runStream}
 use Rattle.channel.proofs.Rows.{LaidBlock}
 use Rattle.channel.proofs.Runs.{block-part}
-
-pub accepted-blocks : (previous : Previous) (is : List BlockInput) → AcceptedRun previous is → Blocks (runBlocks is)
-unfolding AcceptedRun runBlocks Blocks
-accepted-blocks previous [] ok = tt
-accepted-blocks previous (i ∷ is) (ok, oks) = (
-  (block-length (i .main) (i .first) (i .info) ok, block-bytes (i .main) (i .first) (i .info) ok),
-  accepted-blocks (First (i .first)) is oks,
-)
+use Rattle.formatter.proofs.Runs.{accepted-blocks, blocks-length}
 
 -- block i of a run
 pub accepted-at : (previous : Previous) (before : List BlockInput) (i : BlockInput) (after : List BlockInput) → AcceptedRun previous (before ++ i ∷ after)
@@ -37,11 +29,6 @@ blocks-append : (before : List BlockInput) (i : BlockInput) (after : List BlockI
 unfolding runBlocks
 blocks-append [] i after = refl
 blocks-append (a ∷ before) i after = ap (λ (run : List (List ℕ)). madeBlock a ∷ run) (blocks-append before i after)
-
-pub blocks-length : (is : List BlockInput) → length (runBlocks is) ≡ length is
-unfolding runBlocks
-blocks-length [] = refl
-blocks-length (i ∷ is) = ap suc (blocks-length is)
 
 -- its part of the run's stream
 pub run-part : (before : List BlockInput) (i : BlockInput) (after : List BlockInput) (cs : List Bool) → AcceptedRun None (before ++ i ∷ after)
