@@ -34,6 +34,8 @@ pub use writer::{Record, Writer};
 
 /// Main data bytes of a block: 16 sectors of 2,048.
 pub const MAIN: usize = 32_768;
+/// Main data bytes of a sector.
+pub const SECTOR_MAIN: usize = 2_048;
 /// Bytes of an ECC Block in recording order: 208 rows of 182.
 pub const BLOCK: usize = 37_856;
 /// Bytes of a sector of a block, before the channel: 13 rows.

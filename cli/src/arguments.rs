@@ -1,0 +1,136 @@
+//! What can be typed: the commands, their arguments and their help.
+use std::path::PathBuf;
+
+use clap::{Parser, Subcommand, ValueEnum};
+use clap_complete::Shell;
+
+/// The 80 mm DVD channel (ECMA-268): images of sectors to streams of code bits and back, over a proved library.
+#[derive(Parser)]
+#[command(
+    name = "chamanzil",
+    version,
+    after_help = "`-` is standard input or output everywhere. Exit status: 0 done, 1 refused (its number and why are on standard error), 2 wrong arguments."
+)]
+pub struct Arguments {
+    #[command(subcommand)]
+    pub command: Command,
+}
+
+#[derive(Subcommand)]
+pub enum Command {
+    Format(Format),
+    Recover(Recover),
+    Sheet(Sheet),
+    Map(Map),
+    Check(Check),
+    Completions(Completions),
+}
+
+/// An image of sectors to the stream of a run of blocks
+///
+/// The image is any whole number of sectors of 2,048 bytes. The last block is filled up with zero sectors; how many is said, and so are the blocks and sectors of
+/// the run.
+#[derive(clap::Args)]
+#[command(after_help = "Example:\n  chamanzil format disc.img -o disc.stream --first 030000")]
+pub struct Format {
+    /// The image
+    pub image: PathBuf,
+    /// Where the stream goes
+    #[arg(short, long, value_name = "STREAM")]
+    pub output: PathBuf,
+    /// Number of the first sector, six hexadecimal digits
+    #[arg(long, value_name = "NUMBER", value_parser = first_number)]
+    pub first: u32,
+    /// Sector Information byte, two hexadecimal digits
+    #[arg(long, value_name = "BYTE", default_value = "00", value_parser = information)]
+    pub info: u8,
+}
+
+/// A stream back to the image, with repair
+///
+/// A block that is refused ends it, and nothing is handed out. The summary's last line has the sums of the bench sheet's counts over all blocks.
+#[derive(clap::Args)]
+#[command(after_help = "Example:\n  chamanzil recover disc.stream -o disc.img --length 65536")]
+pub struct Recover {
+    /// The stream of a run
+    pub stream: PathBuf,
+    /// Where the image goes
+    #[arg(short, long, value_name = "IMAGE")]
+    pub output: PathBuf,
+    /// Bytes of the image, without the zero sectors that filled the last block up
+    #[arg(long, value_name = "N")]
+    pub length: Option<u64>,
+    /// Where the bench sheet's line of each block goes
+    #[arg(long, value_name = "FILE")]
+    pub sheet: Option<PathBuf>,
+    /// Put 32,768 zero bytes where a block is refused, and go on; the exit status is 1 all the same
+    #[arg(long)]
+    pub keep_going: bool,
+}
+
+/// The bench sheet's line of each block
+#[derive(clap::Args)]
+#[command(after_help = "Example:\n  chamanzil sheet disc.stream")]
+pub struct Sheet {
+    /// The stream of a run
+    pub stream: PathBuf,
+}
+
+/// A picture of one block: what became of each byte
+///
+/// 208 rows by 182 places in recording order: read right, unknown, corrected by its row, by its column, or wrong still; rows and columns past help at the side. A
+/// block that is refused with 4, 5 or 6 is drawn too, with exit status 1.
+#[derive(clap::Args)]
+#[command(after_help = "Example:\n  chamanzil map disc.stream --block 1 -o map.html")]
+pub struct Map {
+    /// The stream of a run
+    pub stream: PathBuf,
+    /// Which block, from 0
+    #[arg(long, value_name = "K", default_value_t = 0)]
+    pub block: u64,
+    /// Where the picture goes: NAME.png or NAME.html
+    #[arg(short, long, value_name = "FILE")]
+    pub output: PathBuf,
+    /// A picture, or a page that tells row, place, byte and Code Word under the pointer; where it is not given, by the name's ending
+    #[arg(long = "as", value_name = "KIND")]
+    pub kind: Option<Kind>,
+}
+
+#[derive(Clone, Copy, PartialEq, Eq, ValueEnum)]
+pub enum Kind {
+    Png,
+    Html,
+}
+
+/// Lengths, zero runs and SYNC Codes of a run, before it goes to the recorder
+#[derive(clap::Args)]
+#[command(after_help = "Example:\n  chamanzil check disc.stream")]
+pub struct Check {
+    /// The stream of a run
+    pub stream: PathBuf,
+}
+
+/// Completions for a shell, on standard output
+#[derive(clap::Args)]
+#[command(after_help = "Example:\n  chamanzil completions bash")]
+pub struct Completions {
+    /// The shell
+    pub shell: Shell,
+}
+
+/// A number of so many hexadecimal digits, no more and no fewer: 30000 for 030000 is a slip that would not show.
+fn hexadecimal(text: &str, digits: usize) -> Result<u32, String> {
+    let fits = text.len() == digits && text.bytes().all(|c| c.is_ascii_hexdigit());
+    if !fits {
+        return Err(format!("{digits} hexadecimal digits are due"));
+    }
+    u32::from_str_radix(text, 16).map_err(|e| e.to_string())
+}
+
+fn first_number(text: &str) -> Result<u32, String> {
+    hexadecimal(text, 6)
+}
+
+fn information(text: &str) -> Result<u8, String> {
+    u8::try_from(hexadecimal(text, 2)?).map_err(|e| e.to_string())
+}

@@ -1,0 +1,120 @@
+//! `format`: an image to the stream of a run. Blocks are made ahead on other threads; the writer lays their sectors one after the other.
+use chamanzil::{
+    slices, Record, Refusal, BLOCK, BLOCK_STREAM, CLOSING, MAIN, SECTOR, SECTOR_MAIN, SECTOR_STREAM,
+};
+
+use crate::arguments::Format;
+use crate::failure::{Failure, Refused};
+use crate::input::Input;
+use crate::output::Output;
+use crate::pieces::{in_order, of_image, Piece};
+use crate::progress::Progress;
+use crate::{say, Ending};
+
+/// A block that is made, or why it is not.
+struct Made {
+    block: u64,
+    /// Bytes of the image that it has.
+    bytes: usize,
+    answer: Result<Vec<u8>, Refusal>,
+}
+
+/// The first number of a block of the run. What is past 32 bits is past every number that the maker takes.
+fn number(first: u32, block: u64) -> u32 {
+    let number = block
+        .checked_mul(16)
+        .and_then(|n| n.checked_add(u64::from(first)));
+    number
+        .and_then(|n| u32::try_from(n).ok())
+        .unwrap_or(u32::MAX)
+}
+
+/// Sectors that are whole are filled up to a block. Others go to the maker as they are, which refuses them.
+fn filled(mut main: Vec<u8>) -> Vec<u8> {
+    if main.len() % SECTOR_MAIN == 0 {
+        main.resize(MAIN, 0);
+    }
+    main
+}
+
+fn make(first: u32, info: u8, piece: Piece) -> Made {
+    let Piece { block, bytes } = piece;
+    let previous = block.checked_sub(1).map(|before| number(first, before));
+    let length = bytes.len();
+    let mut out = vec![0; BLOCK];
+    let answer = slices::encode_block(
+        &filled(bytes),
+        previous,
+        number(first, block),
+        info,
+        &mut out,
+    );
+    Made {
+        block,
+        bytes: length,
+        answer: answer.map(|()| out),
+    }
+}
+
+impl Made {
+    fn refused(&self, refusal: Refusal) -> Refused {
+        let left = self.bytes;
+        let words = (refusal == Refusal::Length).then(|| {
+            format!(
+                "{left} bytes of the image are left, no whole number of sectors of {SECTOR_MAIN}"
+            )
+        });
+        Refused {
+            refusal,
+            block: Some(self.block),
+            words,
+        }
+    }
+
+    /// The writer's sixteen sectors.
+    fn write(&self, record: &mut Record, stream: &mut [u8]) -> Result<(), Refusal> {
+        let block = self.answer.as_ref().map_err(|refusal| *refusal)?;
+        let mut sectors = block.chunks(SECTOR).zip(stream.chunks_mut(SECTOR_STREAM));
+        sectors.try_for_each(|(bytes, out)| slices::write_sector(record, bytes, out))
+    }
+}
+
+pub fn run(chosen: &Format) -> Result<Ending, Failure> {
+    let (first, info) = (chosen.first, chosen.info);
+    let image = Input::open(&chosen.image)?;
+    let mut output = Output::create(&chosen.output)?;
+    let progress = Progress::over(image.length);
+    let mut record = Record::new();
+    let mut stream = vec![0; BLOCK_STREAM];
+    let (mut blocks, mut bytes) = (0_usize, 0);
+
+    in_order(
+        of_image(image),
+        move |piece| make(first, info, piece),
+        |made| {
+            made.write(&mut record, &mut stream)
+                .map_err(|refusal| made.refused(refusal))?;
+            blocks += 1;
+            bytes += made.bytes;
+            progress.passed(made.bytes);
+            output.write(&stream)
+        },
+    )?;
+    let mut closing = [0; CLOSING];
+    slices::close(&mut record, &mut closing).map_err(|refusal| Refused {
+        refusal,
+        block: None,
+        words: None,
+    })?;
+    output.write(&closing)?;
+    output.finish()?;
+    drop(progress);
+
+    match (blocks * MAIN - bytes) / SECTOR_MAIN {
+        0 => {}
+        1 => say("filled up with 1 zero sector"),
+        more => say(format!("filled up with {more} zero sectors")),
+    }
+    say(format!("blocks {blocks} sectors {}", record.sectors));
+    Ok(Ending::Done)
+}

@@ -1,0 +1,80 @@
+//! The page: the same picture, with what is under the pointer. One file without outside parts.
+use std::fmt::Write;
+
+use super::damage::{Byte, Class, Damage};
+use super::picture::{CELL, HEIGHT, LEFT, TOP, WIDTH};
+
+const PAGE: &str = include_str!("page.html");
+
+/// What became of a byte: its letter in the page, and the words for it; READ stands for the byte as read.
+fn fate(byte: Byte) -> (char, &'static str) {
+    match (byte.class, byte.read) {
+        (Class::Right, _) => ('r', "right"),
+        (Class::Row, _) => ('h', "by its row (read as READ)"),
+        (Class::Column, _) => ('v', "by its column (read as READ)"),
+        (Class::Wrong, Some(_)) => ('w', "wrong still"),
+        (Class::Wrong, None) => ('x', "wrong still (unknown)"),
+        (Class::Unknown, _) if byte.after != byte.after_rows => {
+            ('c', "unknown (put right by its column)")
+        }
+        (Class::Unknown, _) if byte.after != 0 => ('u', "unknown (put right by its row)"),
+        (Class::Unknown, _) => ('z', "unknown (its byte is 0)"),
+    }
+}
+
+/// The letters that occur, with their words, as the page's script takes them.
+fn told(damage: &Damage) -> String {
+    let mut fates: Vec<_> = damage.bytes.iter().copied().map(fate).collect();
+    fates.sort_unstable();
+    fates.dedup();
+    let entries: Vec<_> = fates
+        .iter()
+        .map(|(letter, words)| format!("{letter}: \"{words}\""))
+        .collect();
+    format!("{{ {} }}", entries.join(", "))
+}
+
+/// As text of the page.
+fn escaped(text: &str) -> String {
+    text.replace('&', "&amp;")
+        .replace('<', "&lt;")
+        .replace('>', "&gt;")
+}
+
+/// A part of each byte in so many hexadecimal digits, one after the other.
+fn hexadecimal(damage: &Damage, digits: usize, of: fn(&Byte) -> u16) -> String {
+    let mut text = String::with_capacity(digits * damage.bytes.len());
+    for byte in &damage.bytes {
+        let _ = write!(text, "{:0digits$X}", of(byte));
+    }
+    text
+}
+
+/// The page of a picture that is a PNG.
+pub fn page(title: &str, damage: &Damage, picture: &[u8]) -> String {
+    let fates: String = damage.bytes.iter().map(|byte| fate(*byte).0).collect();
+    let parts = [
+        ("width", WIDTH.to_string()),
+        ("height", HEIGHT.to_string()),
+        ("left", LEFT.to_string()),
+        ("top", TOP.to_string()),
+        ("cell", CELL.to_string()),
+        ("counts", damage.counts()),
+        ("sheet", damage.line.clone()),
+        ("after", hexadecimal(damage, 2, |byte| byte.after.into())),
+        (
+            "read",
+            hexadecimal(damage, 2, |byte| byte.read.unwrap_or(0).into()),
+        ),
+        ("words", hexadecimal(damage, 4, |byte| byte.word)),
+        ("fates", fates),
+        ("told", told(damage)),
+        ("picture", base64::encode(picture)),
+        // the name is the user's: it goes last, so that nothing in it is taken for a part
+        ("title", escaped(title)),
+    ];
+    let page = PAGE.to_owned();
+    parts.iter().fold(page, |page, (name, part)| {
+        page.replace(&format!("{{{name}}}"), part)
+    })
+}

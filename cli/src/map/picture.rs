@@ -1,0 +1,151 @@
+//! The picture as pixels, and as a PNG.
+use chamanzil::{BLOCK, ROW};
+
+use super::damage::{Class, Damage, CLASSES};
+use super::font;
+
+type Colour = [u8; 3];
+
+const WHITE: Colour = [0xFF, 0xFF, 0xFF];
+const INK: Colour = [0x20, 0x20, 0x20];
+const PAST_HELP: Colour = [0xCC, 0x79, 0xA7];
+
+/// Pixels of a byte's side.
+pub const CELL: usize = 4;
+/// Where the first byte's pixels begin.
+pub const LEFT: usize = 36;
+pub const TOP: usize = 24;
+const ROWS: usize = BLOCK / ROW;
+const RIGHT: usize = LEFT + CELL * ROW;
+const BOTTOM: usize = TOP + CELL * ROWS;
+/// Pixels between the bytes and what is past help beside them, and how broad that is.
+const GAP: usize = 4;
+const STRIP: usize = 8;
+const LEGEND: usize = BOTTOM + GAP + STRIP + 16;
+const LINE: usize = 22;
+pub const WIDTH: usize = RIGHT + LEFT;
+pub const HEIGHT: usize = LEGEND + (CLASSES.len() + 3) * LINE + 8;
+
+impl Class {
+    /// Colours that people with colour blindness tell apart (Okabe and Ito), in greys where nothing was put right.
+    fn colour(self) -> Colour {
+        match self {
+            Class::Right => [0xED, 0xED, 0xED],
+            Class::Unknown => [0x3A, 0x3A, 0x3A],
+            Class::Row => [0x00, 0x9E, 0x73],
+            Class::Column => [0x00, 0x72, 0xB2],
+            Class::Wrong => [0xD5, 0x5E, 0x00],
+        }
+    }
+
+    fn legend(self) -> &'static str {
+        match self {
+            Class::Right => "read right",
+            Class::Unknown => "unknown, and put right",
+            Class::Row => "corrected by its row",
+            Class::Column => "corrected by its column",
+            Class::Wrong => "wrong still",
+        }
+    }
+}
+
+struct Canvas {
+    pixels: Vec<u8>,
+}
+
+impl Canvas {
+    fn fill(&mut self, x: usize, y: usize, width: usize, height: usize, colour: Colour) {
+        for line in y..y + height {
+            let start = 3 * (WIDTH * line + x);
+            let pixels = self.pixels[start..start + 3 * width].chunks_mut(3);
+            pixels.for_each(|pixel| pixel.copy_from_slice(&colour));
+        }
+    }
+
+    /// A text, each dot of its letters `scale` pixels wide.
+    fn text(&mut self, x: usize, y: usize, scale: usize, text: &str) {
+        for (k, (column, row)) in font::dots(text) {
+            let at = x + scale * (font::ADVANCE * k + column);
+            self.fill(at, y + scale * row, scale, scale, INK);
+        }
+    }
+
+    fn bytes(&mut self, damage: &Damage) {
+        for (i, byte) in damage.bytes.iter().enumerate() {
+            let (x, y) = (LEFT + CELL * (i % ROW), TOP + CELL * (i / ROW));
+            self.fill(x, y, CELL, CELL, byte.class.colour());
+        }
+    }
+
+    fn past_help(&mut self, damage: &Damage) {
+        let places = |all: &[bool]| -> Vec<usize> { (0..all.len()).filter(|i| all[*i]).collect() };
+        for row in places(&damage.rows_past_help) {
+            self.fill(RIGHT + GAP, TOP + CELL * row, STRIP, CELL, PAST_HELP);
+        }
+        for column in places(&damage.columns_past_help) {
+            self.fill(LEFT + CELL * column, BOTTOM + GAP, CELL, STRIP, PAST_HELP);
+        }
+    }
+
+    /// The sectors at the left, 13 rows each; above, the places at which the Sync Frames of a row and its parity begin.
+    fn scales(&mut self) {
+        for sector in 0..16 {
+            let y = TOP + CELL * 13 * sector;
+            let text = sector.to_string();
+            self.fill(LEFT - 6, y, 4, 1, INK);
+            self.text(LEFT - 10 - font::ADVANCE * text.len(), y, 1, &text);
+        }
+        for place in [0, 91, 172] {
+            let x = LEFT + CELL * place;
+            self.fill(x, TOP - 6, 1, 4, INK);
+            self.text(x, TOP - 16, 1, &place.to_string());
+        }
+    }
+
+    fn legend(&mut self, damage: &Damage) {
+        let count = |all: &[bool]| all.iter().filter(|past| **past).count();
+        let classes = CLASSES.map(|class| (class.colour(), damage.count(class), class.legend()));
+        let rows = (
+            PAST_HELP,
+            count(&damage.rows_past_help),
+            "rows past help, at the right",
+        );
+        let columns = (
+            PAST_HELP,
+            count(&damage.columns_past_help),
+            "columns past help, below",
+        );
+        let mut y = LEGEND;
+        for (colour, number, words) in classes.into_iter().chain([rows, columns]) {
+            self.fill(LEFT, y, 14, 14, colour);
+            self.text(LEFT + 22, y, 2, &format!("{number} {words}"));
+            y += LINE;
+        }
+        self.text(LEFT, y, 2, &damage.line);
+    }
+}
+
+/// The picture as a PNG.
+pub fn draw(damage: &Damage) -> Vec<u8> {
+    let mut canvas = Canvas {
+        pixels: WHITE.repeat(WIDTH * HEIGHT),
+    };
+    canvas.bytes(damage);
+    canvas.past_help(damage);
+    canvas.scales();
+    canvas.legend(damage);
+    encode(&canvas.pixels).expect("a picture in memory takes all its pixels")
+}
+
+fn encode(pixels: &[u8]) -> Result<Vec<u8>, png::EncodingError> {
+    let mut out = Vec::new();
+    let (width, height) = (u32::try_from(WIDTH), u32::try_from(HEIGHT));
+    let sizes = (width.expect("it is small"), height.expect("it is small"));
+    let mut encoder = png::Encoder::new(&mut out, sizes.0, sizes.1);
+    encoder.set_color(png::ColorType::Rgb);
+    encoder.set_depth(png::BitDepth::Eight);
+    let mut writer = encoder.write_header()?;
+    writer.write_image_data(pixels)?;
+    writer.finish()?;
+    Ok(out)
+}

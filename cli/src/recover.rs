@@ -1,0 +1,157 @@
+//! `recover`: a stream back to its image.
+use chamanzil::{BlockRead, Tally, BLOCK_STREAM, MAIN};
+
+use crate::arguments::Recover;
+use crate::failure::{Failure, Refused};
+use crate::input::Input;
+use crate::output::Output;
+use crate::pieces::{in_order, of_stream};
+use crate::progress::Progress;
+use crate::sheet::{line, read, Answer};
+use crate::{say, Ending};
+
+/// The sums of the bench sheet's counts over the blocks that are read, and where their numbers should have led.
+#[derive(Default)]
+struct Summary {
+    blocks: u64,
+    refused: u64,
+    rows: Sum,
+    columns: Sum,
+    unknown: u64,
+    sync: u64,
+    /// The number that follows for the next block, once one is read.
+    next: Option<u32>,
+}
+
+#[derive(Default)]
+struct Sum {
+    changed: u64,
+    past_help: u64,
+}
+
+impl Sum {
+    fn add(&mut self, tally: Tally) {
+        self.changed += u64::from(tally.changed);
+        self.past_help += u64::from(tally.past_help);
+    }
+}
+
+impl Summary {
+    /// Counts a block in; a number that does not follow from the blocks before is told.
+    fn add(&mut self, answer: &Answer) -> Option<String> {
+        self.blocks += 1;
+        let due = self.next;
+        self.next = due.map(|number| number.wrapping_add(16));
+        let Ok(read) = &answer.read else {
+            self.refused += 1;
+            return None;
+        };
+        self.rows.add(read.rows);
+        self.columns.add(read.columns);
+        self.unknown += u64::from(read.unknown);
+        self.sync += u64::from(read.sync);
+        self.next = Some(read.first.wrapping_add(16));
+        let due = due.filter(|number| *number != read.first)?;
+        Some(format!(
+            "block {} has number {:06X}, where {due:06X} follows",
+            answer.block, read.first
+        ))
+    }
+
+    fn line(&self) -> String {
+        let Summary {
+            blocks,
+            refused,
+            rows,
+            columns,
+            unknown,
+            sync,
+            ..
+        } = self;
+        format!(
+            "blocks {blocks} refused {refused} rows {} {} columns {} {} unknown {unknown} sync {sync}",
+            rows.changed, rows.past_help, columns.changed, columns.past_help
+        )
+    }
+}
+
+/// The image and the sheet, as they are written.
+struct Outputs {
+    image: Output,
+    sheet: Option<Output>,
+}
+
+impl Outputs {
+    fn create(chosen: &Recover) -> Result<Self, Failure> {
+        if chosen.sheet.as_ref() == Some(&chosen.output) {
+            let words = "--output and --sheet name the same file";
+            return Err(Failure::Arguments(words.to_owned()));
+        }
+        let sheet = chosen.sheet.as_deref().map(Output::create).transpose()?;
+        Ok(Outputs {
+            image: Output::create(&chosen.output)?,
+            sheet,
+        })
+    }
+
+    fn write(&mut self, read: &Answer) -> Result<(), Failure> {
+        if let Some(sheet) = &mut self.sheet {
+            sheet.write(format!("{}\n", line(&read.read)).as_bytes())?;
+        }
+        match &read.read {
+            Ok(BlockRead { main, .. }) => self.image.write(&main[..]),
+            Err(_) => self.image.write(&vec![0; MAIN]),
+        }
+    }
+
+    /// Both are whole; the image is no longer than asked for.
+    fn finish(mut self, length: Option<u64>, blocks: u64) -> Result<(), Failure> {
+        let all = blocks * MAIN as u64;
+        if let Some(length) = length {
+            if length > all {
+                let words = format!("--length {length}, where {blocks} blocks have {all} bytes");
+                return Err(Refused {
+                    refusal: chamanzil::Refusal::Length,
+                    block: None,
+                    words: Some(words),
+                }
+                .into());
+            }
+            self.image.cut(length)?;
+        }
+        self.image.finish()?;
+        self.sheet.map_or(Ok(()), Output::finish)
+    }
+}
+
+pub fn run(chosen: &Recover) -> Result<Ending, Failure> {
+    let stream = Input::open(&chosen.stream)?;
+    let mut outputs = Outputs::create(chosen)?;
+    let progress = Progress::over(stream.length);
+    let mut summary = Summary::default();
+    in_order(
+        of_stream(stream),
+        |piece| read(&piece),
+        |answer| {
+            progress.passed(BLOCK_STREAM);
+            if let Some(refused) = answer.refused() {
+                if !chosen.keep_going {
+                    return Err(refused.into());
+                }
+                progress.say(refused);
+            }
+            if let Some(gap) = summary.add(&answer) {
+                progress.say(gap);
+            }
+            outputs.write(&answer)
+        },
+    )?;
+    outputs.finish(chosen.length, summary.blocks)?;
+    drop(progress);
+    say(summary.line());
+    Ok(if summary.refused == 0 {
+        Ending::Done
+    } else {
+        Ending::Refused
+    })
+}
