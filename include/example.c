@@ -76,6 +76,8 @@ static void write_run(uint32_t first)
     answer = chamanzil_write_block(&kept, true, first, main_data, sizeof main_data, first + 16, 0x00, second, CHAMANZIL_BLOCK_STREAM);
     expect(answer == CHAMANZIL_DONE && kept.sectors == 2 * CHAMANZIL_SECTORS, "the second block of a run");
     expect(chamanzil_close(&kept, closing, CHAMANZIL_CLOSING) == CHAMANZIL_DONE && kept.closed, "closing a run of two blocks");
+    expect(chamanzil_closing_holds(closing, CHAMANZIL_CLOSING) == 1, "the closing code");
+    expect(chamanzil_closing_holds(run + 1, CHAMANZIL_CLOSING) == 0, "four bytes that are no closing code");
 }
 
 /* Each block of the run from its sectors and the four bytes after them, where the second one's code or the closing code stands. */

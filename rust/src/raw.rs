@@ -27,6 +27,7 @@ extern "C" {
     pub fn chamanzil_correct_column(column: *mut u8, column_len: usize) -> u32;
     pub fn chamanzil_read_word(word: u16, following: u16) -> u32;
     pub fn chamanzil_zero_runs_hold(stream: *const u8, stream_len: usize) -> u32;
+    pub fn chamanzil_closing_holds(bytes: *const u8, bytes_len: usize) -> u32;
     pub fn chamanzil_encode_block(
         main: *const u8,
         main_len: usize,

@@ -114,6 +114,20 @@ pub fn zero_runs_hold(stream: &[u8]) -> bool {
     unsafe { raw::chamanzil_zero_runs_hold(stream.as_ptr(), stream.len()) == 1 }
 }
 
+/// Whether the bytes are four and a closing code, one of the four codes of SY0.
+///
+/// ```
+/// let stream = chamanzil::format_block(&[0; chamanzil::MAIN], 0, 0)?;
+/// assert!(chamanzil::closing_holds(&stream[chamanzil::BLOCK_STREAM..]));
+/// assert!(!chamanzil::closing_holds(&[0x04, 0x04, 0x00, 0x11])); // SY1
+/// assert!(!chamanzil::closing_holds(&stream[..]));
+/// # Ok::<(), chamanzil::Refusal>(())
+/// ```
+#[must_use]
+pub fn closing_holds(bytes: &[u8]) -> bool {
+    unsafe { raw::chamanzil_closing_holds(bytes.as_ptr(), bytes.len()) == 1 }
+}
+
 /// The product of two elements of the field of 256, x⁸ + x⁴ + x³ + x² + 1.
 ///
 /// ```

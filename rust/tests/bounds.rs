@@ -282,6 +282,11 @@ fn rows_columns_and_words() {
         let _ = chamanzil::zero_runs_hold(stream.lend());
         stream.is_as_it_was(&pattern);
     }
+    for n in 0..40 {
+        let mut bytes = Buffer::new(&pattern, n, 0xA5);
+        assert!(!chamanzil::closing_holds(bytes.lend()));
+        bytes.is_as_it_was(&pattern);
+    }
 }
 
 /// Whether a run may be closed after so many sectors.

@@ -61,6 +61,10 @@ pub fn zero_runs_hold(stream: &[u8]) -> bool {
     unsafe { chamanzil_zero_runs_hold(stream.as_ptr(), stream.len()) == 1 }
 }
 
+pub fn closing_holds(bytes: &[u8]) -> u32 {
+    unsafe { chamanzil_closing_holds(bytes.as_ptr(), bytes.len()) }
+}
+
 /// The second implementation's record as the library keeps it, and back: member by member.
 fn kept(r: &Record) -> chamanzil::Record {
     chamanzil::Record {

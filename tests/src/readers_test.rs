@@ -6,7 +6,7 @@ use crate::library;
 use crate::random::Random;
 use crate::reading::{repair_block, Answer, Reader, Tallies};
 use crate::report::Report;
-use crate::tables::Tables;
+use crate::tables::{Tables, SYNC_END};
 use crate::writing::{permitted_stream, LAID, SECTOR};
 
 const STREAM: usize = 77_380;
@@ -362,7 +362,38 @@ pub fn sectors(report: &mut Report, random: &mut Random, t: &Tables, reader: &Re
     report.end();
 }
 
+// ---- the closing code
+
+/// Every first half word, before the second half of table 4 and before some others; every second half word after a first half of SY0; and other lengths.
+pub fn closings(report: &mut Report, random: &mut Random, t: &Tables, reader: &Reader) {
+    report.begin("readers: closing codes");
+    let mut held = 0;
+    let mut compare = |bytes: &[u8]| {
+        let (ours, theirs) = (library::closing_holds(bytes), reader.closing_holds(bytes));
+        report.check(ours == u32::from(theirs), || format!("{bytes:02X?}: {ours}"));
+        held += ours;
+    };
+    let code = |first: u16, second: u16| [first.to_be_bytes(), second.to_be_bytes()].concat();
+    for first in 0..=u16::MAX {
+        for second in [SYNC_END, 0x0000, 0x1100, 0x0010, 0x8011, random.next() as u16 & !SYNC_END] {
+            compare(&code(first, second));
+        }
+    }
+    for second in 0..=u16::MAX {
+        compare(&code(t.sync[0][0][0], second));
+    }
+    for first in t.sync.map(|class| class[0]).concat() {
+        let long = [code(first, SYNC_END), vec![0, 0x11]].concat();
+        (0..=long.len()).for_each(|n| compare(&long[..n]));
+        (1..=4).for_each(|n| compare(&long[n..]));
+    }
+    // the four codes in the first trial, one of them again in the second, the four in the third
+    report.check(held == 9, || format!("{held} closing codes held"));
+    report.end();
+}
+
 pub fn all(report: &mut Report, random: &mut Random, t: &Tables, reader: &Reader) {
+    closings(report, random, t, reader);
     sectors(report, random, t, reader, 2_000);
     undamaged(report, random, t, reader, 20);
     mended(report, random, t, reader, 300);

@@ -64,6 +64,17 @@ impl Reader {
         found
     }
 
+    /// Two half words are one of the four codes of a number.
+    fn is_sync(&self, number: usize, first: u16, second: u16) -> bool {
+        second == SYNC_END && self.tables.sync.iter().any(|class| class[number].contains(&first))
+    }
+
+    /// The closing code of a run: four bytes, a SY0.
+    pub fn closing_holds(&self, bytes: &[u8]) -> bool {
+        let [a, b, c, d] = *bytes else { return false };
+        self.is_sync(0, u16::from_be_bytes([a, b]), u16::from_be_bytes([c, d]))
+    }
+
     /// A sector and the two bytes after it.
     pub fn sector(&self, stream: &[u8]) -> ReadSector {
         assert_eq!(stream.len(), 4_838);
@@ -75,10 +86,7 @@ impl Reader {
         };
         for (f, number) in sync_numbers().into_iter().enumerate() {
             let at = 93 * f;
-            let codes = [self.tables.sync[0][number], self.tables.sync[1][number]].concat();
-            if half(at + 1) != SYNC_END || !codes.contains(&half(at)) {
-                read.spoiled += 1;
-            }
+            read.spoiled += u32::from(!self.is_sync(number, half(at), half(at + 1)));
             for i in at + 2..at + 93 {
                 let byte = self.word(half(i), half(i + 1));
                 read.unknown += u32::from(byte.is_none());

@@ -23,5 +23,6 @@ pub use session::chamanzil_close;
 pub use session::chamanzil_new_record;
 pub use session::chamanzil_write_block;
 pub use session::chamanzil_write_sector;
+pub use words::chamanzil_closing_holds;
 pub use words::chamanzil_read_word;
 pub use words::chamanzil_zero_runs_hold;

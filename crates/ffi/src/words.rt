@@ -7,6 +7,7 @@ ghost use Rattle.lists.specs.Count.{bit};
 ghost use Rattle.annexg.specs.Read.{readWord, readingNumber};
 ghost use Rattle.channel.specs.Bits.{zeroRunsHold};
 ghost use Rattle.layout.specs.Lengths.{streamSize};
+ghost use Rattle.reader.specs.Closing.{closingHolds};
 use annexg::Reading;
 
 fn reading_number(reading: Reading) -> u32
@@ -33,4 +34,12 @@ pub extern "C" fn chamanzil_zero_runs_hold(stream: &[u8]) -> u32
     ensures { λ r. ⌜ r ≡ bit (leb (length (now (stream .entry))) streamSize && zeroRunsHold (now (stream .entry))) ⌝ }
 {
     zeroruns::zero_runs_hold(stream) as u32
+}
+
+// 1 where the bytes are four and a closing code, one of SY0's four, else 0.
+#[no_mangle]
+pub extern "C" fn chamanzil_closing_holds(bytes: &[u8]) -> u32
+    ensures { λ r. ⌜ r ≡ bit (closingHolds (now (bytes .entry))) ⌝ }
+{
+    reader::closing_holds(bytes) as u32
 }

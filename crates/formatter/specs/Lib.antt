@@ -1,4 +1,3 @@
 pub mod Formatter
 pub mod Session
-pub mod Hexadecimal
 pub mod Inner

@@ -1,7 +1,5 @@
 // The formatter: main data to a stream, by the block maker and then the writer. A whole block of a run at a time (`write_block`), or the run of one block with its
 // closing code (`format_block`).
-mod hexadecimal;
-
 ghost use mathlib.Core.Path.{_≡_};
 ghost use lib.ListN.{length};
 ghost use Rattle.eccblock.specs.Encode.{encodeNumber, encodedBuffer};
@@ -13,7 +11,6 @@ ghost use Rattle.formatter.specs.Formatter.{formattedNumber, writeBlockR
 ghost use Rattle.formatter.specs.Inner.{sectorRoom, recordNumber, madeRefusal, firstLaid};
 use eccblock::Encoded;
 use eccblock::Previous;
-pub use hexadecimal::hex_number;
 use layout::BLOCK_SIZE;
 use layout::SECTOR_COUNT;
 use layout::SECTOR_SIZE;
@@ -22,12 +19,6 @@ use layout::SECTORS_STREAM;
 use layout::STREAM_SIZE;
 use writer::Answer;
 use writer::Record;
-
-// A number that was given, or what is none.
-pub enum Parsed {
-    Number(u32),
-    Malformed,
-}
 
 // What the formatter answers. The documents' number of each is `formattedNumber`.
 pub enum Formatted {

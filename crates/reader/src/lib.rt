@@ -1,5 +1,6 @@
 // The sector reader (document 01, 'Reading a word, and the repair'): 4,838 bytes of stream, a sector and the two bytes after it, to 2,366 bytes and two tallies.
-// The tables are made once a call of `read_sector` and lent from there on; a caller that reads many sectors makes them itself and calls `read_sector_with`.
+// The tables are made once a call of `read_sector` and lent from there on; a caller that reads many sectors makes them itself and calls `read_sector_with`. And
+// the closing code after the last sector of a run, judged.
 ghost use mathlib.Core.Path.{_≡_};
 ghost use Prim.Native.Nat.{_+_, _*_, _≤_};
 ghost use lib.ListN.{length};
@@ -10,7 +11,9 @@ ghost use Rattle.annexg.specs.Sync.{syncTable};
 ghost use Rattle.layout.specs.Sectors.{frameCodes};
 ghost use Rattle.channel.specs.Block.{readSector};
 ghost use Rattle.layout.specs.Lengths.{sectorSize, sectorRead, frameHalves};
+ghost use Rattle.reader.specs.Closing.{closingHolds};
 ghost use Rattle.reader.specs.Sector.{lostSync, unknownTally, syncTally, sectorAnswer, sectorAfter, sectorReadRefusal, sectorReadNumber};
+use layout::CLOSING_SIZE;
 use layout::FRAME_BYTES;
 use layout::FRAME_HALVES;
 use layout::SECTOR_FRAMES;
@@ -149,4 +152,19 @@ pub fn sector_read_number(answer: SectorRead) -> u8
         } => 0,
         SectorRead::LengthRefused => 1,
     }
+}
+
+// ---- the closing code
+
+// The bytes are one of SY0's four codes, and no more.
+pub fn closing_holds(bytes: &[u8]) -> bool
+    ensures { λ r. ⌜ r ≡ closingHolds (now (bytes .entry)) ⌝ }
+{
+    if bytes.len() != CLOSING_SIZE {
+        return false;
+    }
+    let syncs = annexg::sync_table();
+    let first = bytes::half_at(bytes, 0);
+    let second = bytes::half_at(bytes, 1);
+    annexg::is_sync(&syncs, 0, first, second)
 }
