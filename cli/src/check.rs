@@ -1,5 +1,7 @@
 //! `check`: lengths, zero runs and SYNC Codes of a run.
-use chamanzil::{read_sector, zero_runs_hold, BLOCK_STREAM, SECTOR_READ, SECTOR_STREAM, STREAM};
+use chamanzil::{
+    closing_holds, read_sector, zero_runs_hold, BLOCK_STREAM, SECTOR_READ, SECTOR_STREAM, STREAM,
+};
 
 use crate::arguments::Check;
 use crate::failure::{Failure, Refused};
