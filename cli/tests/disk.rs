@@ -68,10 +68,10 @@ fn standard_output_that_can_not_be_kept() {
     }
 }
 
-/// A disk of 64 KB that only the command's shell sees, and that is gone with it. What is left on it is listed after each run.
+/// A disk of 100 KB that only the command's shell sees, and that is gone with it. What is left on it is listed after each run.
 fn on_a_small_disk(folder: &Folder, line: &str) -> Option<common::Ended> {
     let script = format!(
-        r#"mkdir -p disk && mount -t tmpfs -o size=64k none disk || exit 77
+        r#"mkdir -p disk && mount -t tmpfs -o size=100k none disk || exit 77
         printf old > disk/old
         "$0" {line}
         status=$?
@@ -103,8 +103,9 @@ fn a_small_disk() {
         ended.failed(&format!("cannot write {name}: "));
         assert_eq!(folder.read("left"), b"old\n", "{line}");
     }
-    // what is asked for has room, and so it is there
-    let line = "recover stream -o disk/old --length 40000";
+    // a stream of one block has room
+    folder.write("small", &image(51, MAIN));
+    let line = "format small -o disk/old --first 030000";
     on_a_small_disk(&folder, line).unwrap().done();
     assert_eq!(folder.read("left"), b"old\n");
 }

@@ -12,7 +12,7 @@ use std::process::Stdio;
 const LARGE: usize = 64_000_000;
 const LARGE_BLOCKS: usize = 1_954;
 /// What the command may hold of 64 MB, its threads and its own code included.
-const MEMORY_KB: usize = 32_000;
+const MEMORY_KB: usize = 48_000;
 
 /// Formats an image that is a whole number of sectors, and recovers it.
 fn there_and_back(image: &[u8], said: &[&str]) {

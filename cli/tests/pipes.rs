@@ -143,13 +143,29 @@ fn standard_output_full() {
         let line = format!(r#""$0" {line} < input > /dev/full"#);
         folder.shell(&line).failed("cannot write standard output: ");
     }
-    let completions = r#""$0" completions bash > /dev/full"#;
-    folder.shell(completions).failed("cannot write standard output: ");
-    folder.write("stream", &two_blocks().1);
-    let sheet = r#""$0" recover stream -o image --sheet - > /dev/full"#;
-    folder.shell(sheet).failed("cannot write standard output: ");
+    assert_eq!(folder.names(), ["input"]);
+}
+
+#[test]
+fn completions_to_a_full_disk() {
+    for shell in ["bash", "zsh", "fish"] {
+        let line = format!(r#""$0" completions {shell} > /dev/full"#);
+        Folder::new().shell(&line).failed("cannot write standard output: ");
+    }
+}
+
+/// Where one of two outputs goes to a device that takes nothing, the other is not there either.
+#[test]
+fn a_full_device_beside_a_file() {
+    let folder = Folder::with(&[("stream", &two_blocks().1)]);
     folder.run("recover stream -o /dev/full").failed("cannot write /dev/full: ");
-    assert_eq!(folder.names(), ["input", "stream"]);
+    folder.run("recover stream -o /dev/full --sheet lines").failed("cannot write /dev/full: ");
+    assert_eq!(folder.names(), ["stream"]);
+    folder.run("recover stream -o image --sheet /dev/full").failed("cannot write /dev/full: ");
+    assert_eq!(folder.names(), ["stream"]);
+    let line = r#""$0" recover stream -o image --sheet - > /dev/full"#;
+    folder.shell(line).failed("cannot write standard output: ");
+    assert_eq!(folder.names(), ["stream"]);
 }
 
 /// Standard input may be closed altogether.
