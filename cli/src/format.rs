@@ -6,7 +6,7 @@ use chamanzil::{
 use crate::arguments::Format;
 use crate::failure::{Failure, Refused};
 use crate::input::Input;
-use crate::output::Output;
+use crate::output::{self, Output};
 use crate::pieces::{in_order, of_image, Piece};
 use crate::progress::Progress;
 use crate::{say, Ending};
@@ -107,7 +107,7 @@ pub fn run(chosen: &Format) -> Result<Ending, Failure> {
         words: None,
     })?;
     output.write(&closing)?;
-    output.finish()?;
+    output::finish(vec![output])?;
     drop(progress);
 
     match (blocks * MAIN - bytes) / SECTOR_MAIN {

@@ -41,15 +41,16 @@ pub(crate) fn tell(line: impl std::fmt::Display) -> Result<(), Failure> {
     })
 }
 
-fn completions(chosen: &Completions) -> Ending {
-    let mut command = Arguments::command();
+fn completions(chosen: &Completions) -> Result<Ending, Failure> {
+    let mut text = Vec::new();
     clap_complete::generate(
         chosen.shell,
-        &mut command,
+        &mut Arguments::command(),
         "chamanzil",
-        &mut std::io::stdout(),
+        &mut text,
     );
-    Ending::Done
+    tell(String::from_utf8_lossy(&text).trim_end())?;
+    Ok(Ending::Done)
 }
 
 fn run(command: &Command) -> Result<Ending, Failure> {
@@ -59,7 +60,7 @@ fn run(command: &Command) -> Result<Ending, Failure> {
         Command::Sheet(chosen) => sheet::run(chosen),
         Command::Map(chosen) => map::run(chosen),
         Command::Check(chosen) => check::run(chosen),
-        Command::Completions(chosen) => Ok(completions(chosen)),
+        Command::Completions(chosen) => completions(chosen),
     }
 }
 

@@ -55,14 +55,14 @@ impl Drop for Part {
 struct Flushing {
     unflushed: usize,
     wake: SyncSender<()>,
-    flushing: JoinHandle<io::Result<()>>,
+    thread: JoinHandle<io::Result<()>>,
 }
 
 impl Flushing {
     fn start(file: &File) -> io::Result<Self> {
         let file = file.try_clone()?;
         let (wake, woken) = sync_channel(1);
-        let flushing = thread::spawn(move || {
+        let thread = thread::spawn(move || {
             for () in woken {
                 file.sync_data()?;
             }
@@ -71,7 +71,7 @@ impl Flushing {
         Ok(Flushing {
             unflushed: 0,
             wake,
-            flushing,
+            thread,
         })
     }
 
@@ -85,7 +85,7 @@ impl Flushing {
     /// Everything is on the disk, or why it is not.
     fn end(self) -> io::Result<()> {
         drop(self.wake);
-        self.flushing
+        self.thread
             .join()
             .unwrap_or_else(|cause| resume_unwind(cause))
     }
@@ -97,7 +97,7 @@ enum Place {
     Named {
         part: Part,
         to: PathBuf,
-        flushing: Flushing,
+        flushing: Option<Flushing>,
     },
     /// A file without a name, whose bytes go to standard output, a device or a pipe: what is handed out there can't be taken back.
     Handed { to: File },
@@ -136,7 +136,11 @@ impl Output {
     }
 
     pub fn write(&mut self, bytes: &[u8]) -> Result<(), Failure> {
-        if let Place::Named { flushing, .. } = &mut self.place {
+        if let Place::Named {
+            flushing: Some(flushing),
+            ..
+        } = &mut self.place
+        {
             flushing.written(bytes.len());
         }
         Self::written(&self.name, self.file.write_all(bytes))
@@ -147,18 +151,38 @@ impl Output {
         Self::written(&self.name, self.file.set_len(length))
     }
 
-    /// Everything is there: the output gets its name, or is handed out.
-    pub fn finish(mut self) -> Result<(), Failure> {
-        let result = match self.place {
-            Place::Named { part, to, flushing } => flushing.end().and_then(|()| part.rename(&to)),
-            Place::Handed { mut to } => self
-                .file
-                .rewind()
-                .and_then(|()| io::copy(&mut self.file, &mut to))
-                .map(|_| ()),
-        };
-        Self::written(&self.name, result)
+    fn flush(&mut self) -> io::Result<()> {
+        match &mut self.place {
+            Place::Named { flushing, .. } => flushing.take().map_or(Ok(()), Flushing::end),
+            Place::Handed { .. } => Ok(()),
+        }
     }
+
+    fn hand_out(&mut self) -> io::Result<()> {
+        let Place::Handed { to } = &mut self.place else {
+            return Ok(());
+        };
+        self.file.rewind()?;
+        io::copy(&mut self.file, to).map(|_| ())
+    }
+
+    fn rename(&mut self) -> io::Result<()> {
+        match &self.place {
+            Place::Named { part, to, .. } => part.rename(to),
+            Place::Handed { .. } => Ok(()),
+        }
+    }
+}
+
+/// Everything is there: each output gets its name, or is handed out. Names come last, so that none stands there where another output fails.
+pub fn finish(mut outputs: Vec<Output>) -> Result<(), Failure> {
+    for step in [Output::flush, Output::hand_out, Output::rename] {
+        for output in &mut outputs {
+            let result = step(output);
+            Output::written(&output.name, result)?;
+        }
+    }
+    Ok(())
 }
 
 /// Standard output without the buffer that `io::stdout` has in front of it.
@@ -195,6 +219,6 @@ fn beside(path: &Path) -> io::Result<(File, Place)> {
 
 fn named(to: PathBuf) -> io::Result<(File, Place)> {
     let (file, part) = Part::create(&to)?;
-    let flushing = Flushing::start(&file)?;
+    let flushing = Some(Flushing::start(&file)?);
     Ok((file, Place::Named { part, to, flushing }))
 }

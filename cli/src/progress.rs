@@ -1,5 +1,9 @@
 //! The progress bar of long work, on standard error where that is a terminal, and nowhere else.
+use std::io::{self, IsTerminal};
+
 use indicatif::{ProgressBar, ProgressStyle};
+
+use crate::failure::Failure;
 
 pub struct Progress {
     bar: ProgressBar,
@@ -31,6 +35,14 @@ impl Progress {
     /// A line on standard error, above the bar.
     pub fn say(&self, line: impl std::fmt::Display) {
         self.bar.suspend(|| crate::say(line));
+    }
+
+    /// A line on standard output; where that is the terminal too, above the bar.
+    pub fn tell(&self, line: impl std::fmt::Display) -> Result<(), Failure> {
+        if io::stdout().is_terminal() {
+            return self.bar.suspend(|| crate::tell(line));
+        }
+        crate::tell(line)
     }
 }
 

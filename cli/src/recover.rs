@@ -4,7 +4,7 @@ use chamanzil::{BlockRead, Tally, BLOCK_STREAM, MAIN};
 use crate::arguments::Recover;
 use crate::failure::{Failure, Refused};
 use crate::input::Input;
-use crate::output::Output;
+use crate::output::{self, Output};
 use crate::pieces::{in_order, of_stream};
 use crate::progress::Progress;
 use crate::sheet::{line, read, Answer};
@@ -119,8 +119,12 @@ impl Outputs {
             }
             self.image.cut(length)?;
         }
-        self.image.finish()?;
-        self.sheet.map_or(Ok(()), Output::finish)
+        output::finish(
+            [Some(self.image), self.sheet]
+                .into_iter()
+                .flatten()
+                .collect(),
+        )
     }
 }
 

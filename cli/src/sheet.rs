@@ -6,7 +6,7 @@ use crate::failure::{Failure, Refused};
 use crate::input::Input;
 use crate::pieces::{in_order, of_stream, Piece};
 use crate::progress::Progress;
-use crate::{tell, Ending};
+use crate::Ending;
 
 /// A block as the library answers, and the bytes that there were for it.
 pub struct Answer {
@@ -56,7 +56,7 @@ pub fn run(chosen: &Sheet) -> Result<Ending, Failure> {
                 progress.say(refused);
                 ending = Ending::Refused;
             }
-            tell(line(&answer.read))
+            progress.tell(line(&answer.read))
         },
     )?;
     Ok(ending)

@@ -21,7 +21,8 @@ fn folder_of_one_block() -> Folder {
 }
 
 const FILES: [&str; 3] = ["cut", "image", "stream"];
-const CUT: &str = "refused 1: 77379 bytes of the stream are left, where a block has 77380 (block 0)";
+const CUT: &str =
+    "refused 1: 77379 bytes of the stream are left, where a block has 77380 (block 0)";
 
 /// Each command with an output, up to that output's name.
 const TO: [&str; 4] = [
@@ -44,7 +45,9 @@ const FROM: [&str; 5] = [
 fn a_folder_that_is_not_there() {
     let folder = folder_of_one_block();
     for line in TO {
-        folder.run(&format!("{line}missing/out")).failed("cannot write missing/out: ");
+        folder
+            .run(&format!("{line}missing/out"))
+            .failed("cannot write missing/out: ");
         assert_eq!(folder.names(), FILES, "{line}");
     }
 }
@@ -53,7 +56,9 @@ fn a_folder_that_is_not_there() {
 fn a_file_where_a_folder_is_named() {
     let folder = folder_of_one_block();
     for line in TO {
-        folder.run(&format!("{line}image/out")).failed("cannot write image/out: ");
+        folder
+            .run(&format!("{line}image/out"))
+            .failed("cannot write image/out: ");
         assert_eq!(folder.names(), FILES, "{line}");
     }
 }
@@ -64,7 +69,9 @@ fn an_output_that_is_a_folder() {
     fs::create_dir(folder.path("out")).unwrap();
     for line in TO {
         for name in ["out", "out/", "."] {
-            folder.run(&format!("{line}{name}")).failed(&format!("cannot write {name}: "));
+            folder
+                .run(&format!("{line}{name}"))
+                .failed(&format!("cannot write {name}: "));
             assert_eq!(folder.names(), ["cut", "image", "out", "stream"], "{line}");
             assert_eq!(fs::read_dir(folder.path("out")).unwrap().count(), 0);
         }
@@ -75,7 +82,9 @@ fn an_output_that_is_a_folder() {
 fn an_input_that_is_not_there() {
     let folder = folder_of_one_block();
     for line in FROM {
-        let ended = folder.run(&format!("{line}missing")).failed("cannot read missing: ");
+        let ended = folder
+            .run(&format!("{line}missing"))
+            .failed("cannot read missing: ");
         assert_eq!(ended.out.len(), 0);
         assert_eq!(folder.names(), FILES, "{line}");
     }
@@ -120,8 +129,14 @@ fn an_existing_output_is_untouched_at_refusal() {
     folder.run("recover cut -o out --sheet lines").refused(CUT);
     folder.run("map cut -o out --as png").refused(CUT);
     let after = fs::metadata(folder.path("out")).unwrap();
-    assert_eq!((after.ino(), after.mtime_nsec()), (before.ino(), before.mtime_nsec()));
-    assert_eq!((folder.read("out"), folder.read("lines")), (OLD.into(), OLD.into()));
+    assert_eq!(
+        (after.ino(), after.mtime_nsec()),
+        (before.ino(), before.mtime_nsec())
+    );
+    assert_eq!(
+        (folder.read("out"), folder.read("lines")),
+        (OLD.into(), OLD.into())
+    );
     assert_eq!(folder.names(), ["cut", "image", "lines", "out", "stream"]);
 }
 
@@ -129,11 +144,19 @@ fn an_existing_output_is_untouched_at_refusal() {
 #[test]
 fn both_outputs_or_none() {
     let folder = folder_of_one_block();
-    folder.run("recover stream -o out --sheet missing/lines").failed("cannot write missing/lines: ");
-    folder.run("recover stream -o missing/out --sheet lines").failed("cannot write missing/out: ");
+    folder
+        .run("recover stream -o out --sheet missing/lines")
+        .failed("cannot write missing/lines: ");
+    folder
+        .run("recover stream -o missing/out --sheet lines")
+        .failed("cannot write missing/out: ");
     fs::create_dir(folder.path("folder")).unwrap();
-    folder.run("recover stream -o out --sheet folder").failed("cannot write folder: ");
-    folder.run("recover stream -o folder --sheet lines").failed("cannot write folder: ");
+    folder
+        .run("recover stream -o out --sheet folder")
+        .failed("cannot write folder: ");
+    folder
+        .run("recover stream -o folder --sheet lines")
+        .failed("cannot write folder: ");
     assert_eq!(folder.names(), ["cut", "folder", "image", "stream"]);
 }
 
@@ -177,15 +200,25 @@ fn a_symbolic_link() {
     folder.run("recover stream -o link").done();
     assert!(folder.read("link") == folder.read("image"));
     assert_eq!(fs::read_dir(folder.path("elsewhere")).unwrap().count(), 1);
-    assert_eq!(folder.names(), ["cut", "elsewhere", "image", "link", "stream"]);
+    assert_eq!(
+        folder.names(),
+        ["cut", "elsewhere", "image", "link", "stream"]
+    );
 }
 
 #[test]
 fn permissions_are_those_of_the_umask() {
     let folder = folder_of_one_block();
-    for (umask, due) in [("022", 0o644), ("077", 0o600), ("002", 0o664), ("027", 0o640)] {
+    for (umask, due) in [
+        ("022", 0o644),
+        ("077", 0o600),
+        ("002", 0o664),
+        ("027", 0o640),
+    ] {
         for line in TO {
-            folder.shell(&format!(r#"umask {umask}; "$0" {line} out"#)).done();
+            folder
+                .shell(&format!(r#"umask {umask}; "$0" {line} out"#))
+                .done();
             let mode = fs::metadata(folder.path("out")).unwrap().mode() & 0o777;
             assert_eq!(mode, due, "{line} with umask {umask}: {mode:o}");
             fs::remove_file(folder.path("out")).unwrap();
@@ -199,7 +232,12 @@ fn odd_names() {
     use std::ffi::OsStr;
     use std::os::unix::ffi::OsStrExt;
     let folder = folder_of_one_block();
-    for name in [&b"with space"[..], b"\xFF\xFE", b".hidden", "Scheibe-ä".as_bytes()] {
+    for name in [
+        &b"with space"[..],
+        b"\xFF\xFE",
+        b".hidden",
+        "Scheibe-ä".as_bytes(),
+    ] {
         let name = OsStr::from_bytes(name);
         let mut command = folder.command("recover stream -o");
         common::ended(command.arg(name)).done();

@@ -69,7 +69,11 @@ fn first_number_and_information_arrive_as_given() {
     let image = image(71, MAIN);
     let folder = Folder::with(&[("image", &image)]);
     for (first, info, number, byte) in given {
-        folder.run(&format!("format image -o stream --first {first} --info {info}")).done();
+        folder
+            .run(&format!(
+                "format image -o stream --first {first} --info {info}"
+            ))
+            .done();
         let stream = folder.read("stream");
         assert_eq!(id_of(&stream), (byte, number));
         assert!(stream == run_of(&image, number, byte));
@@ -103,7 +107,11 @@ impl Spoiled {
 }
 
 fn spoiled(number: u8, frame: usize, edit: fn(&mut [u8; BLOCK])) -> Spoiled {
-    Spoiled { edit, number, frame }
+    Spoiled {
+        edit,
+        number,
+        frame,
+    }
 }
 
 /// Holds every command to what a run with a spoiled block gets.
@@ -111,9 +119,18 @@ fn refused_in_block(spoiled: &Spoiled, block: usize) {
     let (stream, main) = edited(block, spoiled.edit);
     let folder = Folder::with(&[("stream", &stream), ("old", b"old")]);
     let line = spoiled.line(block);
-    for arguments in ["-o image --sheet lines", "-o old", "-o -", "-o image --sheet -"] {
-        folder.run(&format!("recover stream {arguments}")).refused(&line);
-        folder.run(&format!("recover stream {arguments} --length 5")).refused(&line);
+    for arguments in [
+        "-o image --sheet lines",
+        "-o old",
+        "-o -",
+        "-o image --sheet -",
+    ] {
+        folder
+            .run(&format!("recover stream {arguments}"))
+            .refused(&line);
+        folder
+            .run(&format!("recover stream {arguments} --length 5"))
+            .refused(&line);
     }
     assert_eq!(folder.names(), ["old", "stream"]);
     assert_eq!(folder.read("old"), b"old");
@@ -121,13 +138,23 @@ fn refused_in_block(spoiled: &Spoiled, block: usize) {
     let ended = folder.run("sheet stream").with_status(1).said(&[&line]);
     let sheet: Vec<&str> = ended.text().lines().collect();
     assert_eq!((sheet.len(), sheet[block]), (3, &spoiled.sheet()[..]));
-    assert_eq!(sheet.iter().filter(|line| line.starts_with("block 0300")).count(), 2);
+    assert_eq!(
+        sheet
+            .iter()
+            .filter(|line| line.starts_with("block 0300"))
+            .count(),
+        2
+    );
 
-    let ended = folder.run(&format!("map stream --block {block} -o map.png")).refused(&line);
+    let ended = folder
+        .run(&format!("map stream --block {block} -o map.png"))
+        .refused(&line);
     assert_eq!(ended.lines().last(), Some(&&spoiled.sheet()[..]));
     assert!(folder.read("map.png").starts_with(b"\x89PNG"));
 
-    folder.run("recover stream -o image --keep-going").refused(&line);
+    folder
+        .run("recover stream -o image --keep-going")
+        .refused(&line);
     let mut due = main;
     due[block * MAIN..][..MAIN].fill(0);
     assert!(folder.read("image") == due, "{line}");
@@ -201,8 +228,13 @@ fn two_refused_blocks() {
     );
     let ended = folder.run("recover stream -o image").refused(first);
     assert_eq!(ended.times(second), 0);
-    folder.run("sheet stream").with_status(1).said(&[first, second]);
-    let ended = folder.run("recover stream -o - --keep-going").with_status(1);
+    folder
+        .run("sheet stream")
+        .with_status(1)
+        .said(&[first, second]);
+    let ended = folder
+        .run("recover stream -o - --keep-going")
+        .with_status(1);
     assert_eq!(ended.lines()[..2], [first, second]);
     assert!(ended.out[MAIN..2 * MAIN] == main[MAIN..2 * MAIN]);
 }

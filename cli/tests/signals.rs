@@ -33,11 +33,16 @@ fn interrupted(line: &str, outputs: &[&str], input: &[u8]) {
         for is_older in [false, true] {
             let folder = Folder::new();
             if is_older {
-                outputs.iter().for_each(|output| folder.write(output, b"old"));
+                outputs
+                    .iter()
+                    .for_each(|output| folder.write(output, b"old"));
             }
             let before = folder.names();
             let (child, stdin) = half_way(&folder, line, input);
-            let due: Vec<String> = outputs.iter().map(|o| format!(".{o}.{}.part", child.id())).collect();
+            let due: Vec<String> = outputs
+                .iter()
+                .map(|o| format!(".{o}.{}.part", child.id()))
+                .collect();
             until("outputs under way", || parts(&folder) == due);
             send_signal(name, child.id());
             let ended = finished(child);
@@ -61,7 +66,11 @@ fn format() {
 fn recover() {
     let stream = run_of(&image(61, BLOCKS * MAIN), 0x03_0000, 0);
     interrupted("recover - -o image", &["image"], &stream);
-    interrupted("recover - -o image --sheet lines", &["image", "lines"], &stream);
+    interrupted(
+        "recover - -o image --sheet lines",
+        &["image", "lines"],
+        &stream,
+    );
     interrupted("recover - -o image --keep-going", &["image"], &stream);
 }
 

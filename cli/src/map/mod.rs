@@ -11,7 +11,7 @@ use chamanzil::BLOCK_STREAM;
 use crate::arguments::{Kind, Map};
 use crate::failure::{Failure, Refused};
 use crate::input::Input;
-use crate::output::Output;
+use crate::output::{self, Output};
 use crate::{say, Ending};
 use damage::Damage;
 
@@ -56,7 +56,7 @@ pub fn run(chosen: &Map) -> Result<Ending, Failure> {
             output.write(page::page(&title, &damage, &picture).as_bytes())?;
         }
     }
-    output.finish()?;
+    output::finish(vec![output])?;
 
     let ending = match damage.refusal {
         Some(refusal) => {

@@ -133,7 +133,10 @@ impl Cells {
 }
 
 fn as_read(meanings: &[Option<u8>]) -> Block {
-    let bytes: Vec<u8> = meanings.iter().map(|meaning| meaning.unwrap_or(0)).collect();
+    let bytes: Vec<u8> = meanings
+        .iter()
+        .map(|meaning| meaning.unwrap_or(0))
+        .collect();
     bytes.into_boxed_slice().try_into().unwrap()
 }
 

@@ -173,7 +173,12 @@ impl Ended {
         let ended = self.with_status(1);
         let lines = ended.lines();
         let is_said = |line: &&&str| line.starts_with(start) && line.len() > start.len();
-        assert_eq!(lines.iter().filter(is_said).count(), 1, "'{start}' in: {}", ended.err);
+        assert_eq!(
+            lines.iter().filter(is_said).count(),
+            1,
+            "'{start}' in: {}",
+            ended.err
+        );
         ended
     }
 
@@ -234,7 +239,11 @@ pub fn finished(child: Child) -> Ended {
 
 pub fn send_signal(name: &str, id: u32) {
     let kill = format!("kill -{name} {id}");
-    assert!(Command::new("sh").args(["-c", &kill]).status().unwrap().success());
+    assert!(Command::new("sh")
+        .args(["-c", &kill])
+        .status()
+        .unwrap()
+        .success());
 }
 
 /// Waits until something holds, or fails.

@@ -61,7 +61,10 @@ pub fn run_of(image: &[u8], first: u32, info: u8) -> Vec<u8> {
     let mut stream = vec![0; filled.len() / MAIN * BLOCK_STREAM + CLOSING];
     let mut writer = Writer::new();
     let mut number = first;
-    for (main, out) in filled.chunks_exact(MAIN).zip(stream.chunks_exact_mut(BLOCK_STREAM)) {
+    for (main, out) in filled
+        .chunks_exact(MAIN)
+        .zip(stream.chunks_exact_mut(BLOCK_STREAM))
+    {
         let (main, out) = (main.try_into().unwrap(), out.try_into().unwrap());
         writer = writer.write_block(main, number, info, out).unwrap();
         number += 16;
@@ -72,7 +75,9 @@ pub fn run_of(image: &[u8], first: u32, info: u8) -> Vec<u8> {
 
 fn close(writer: Writer, stream: &mut [u8]) {
     let closing = stream.len() - CLOSING;
-    writer.close((&mut stream[closing..]).try_into().unwrap()).unwrap();
+    writer
+        .close((&mut stream[closing..]).try_into().unwrap())
+        .unwrap();
 }
 
 /// The bytes from which block k of a run is read.
@@ -117,7 +122,10 @@ pub fn block_of(main: &[u8], first: u32, info: u8) -> Block {
 pub fn blocks_of(image: &[u8], first: u32) -> Vec<Block> {
     let numbers = (first..).step_by(16);
     let mains = image.chunks_exact(MAIN);
-    mains.zip(numbers).map(|(main, number)| block_of(main, number, 0)).collect()
+    mains
+        .zip(numbers)
+        .map(|(main, number)| block_of(main, number, 0))
+        .collect()
 }
 
 /// An ID in frame k of a block, with the IED that is right for it.
