@@ -174,7 +174,7 @@ uint32_t chamanzil_read_word(uint16_t word, uint16_t following);
  * its place; else 0. */
 uint32_t chamanzil_zero_runs_hold(const uint8_t *stream, size_t stream_len);
 
-/* 1 where the bytes are CHAMANZIL_CLOSING and a closing code, one of the four codes of SY0 in table 4; else 0. */
+/* 1 where `bytes` has CHAMANZIL_CLOSING bytes, and they are one of the four codes of SY0 in table 4, as a closing code is; else 0. */
 uint32_t chamanzil_closing_holds(const uint8_t *bytes, size_t bytes_len);
 
 /* ---- the field of 256 elements, x^8 + x^4 + x^3 + x^2 + 1 */

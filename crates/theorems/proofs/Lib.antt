@@ -4,4 +4,5 @@ pub mod Runs
 pub mod Demand
 pub mod Undamaged
 pub mod FormatBack
+pub mod RunChecked
 pub mod Trials

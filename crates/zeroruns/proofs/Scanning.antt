@@ -1,5 +1,5 @@
 -- The scan of a stream for its zero runs: the test of one by its cases (fits-low, -mid, -other, -thirteen), a step of the scan by its cases (scan-zero,
--- scan-first, scan-gap), the bits of a stream one by one (bits-long, bits-at), and the scan over them (scan-more, scan-end).
+-- scan-first, scan-gap), the bits of a stream one by one (bits-at), and the scan over them (scan-more, scan-end).
 -- Assumes nothing.
 use mathlib.Core.Path.{_≡_, refl, sym, _∙_}
 use mathlib.Core.Bool.{Bool, true, false, _&&_, and-assoc, and-true}
@@ -12,6 +12,7 @@ use lib.Dec.{eqb}
 use lib.ListN.{length, getD, drop, drop-of-length-le}
 use lib.Seq.{drop-cons}
 use Rattle.channel.specs.Bits.{bitsBytes, blockZeroRunFits, zeroRunsFrom}
+use Rattle.channel.proofs.Overlaps.{bits-long}
 use Rattle.bytes.specs.Halves.{bitAt}
 use Rattle.layout.specs.Lengths.{frameBits}
 use Rattle.zeroruns.specs.Inner.{Scanned}
@@ -54,11 +55,6 @@ scan-gap a r j b f e g h s z o = record {
 }
 
 -- ---- the bits of a stream, one by one
-
-pub bits-long : (xs : List ℕ) → length (bitsBytes xs) ≡ 8 * length xs
-unfolding bitsBytes
-bits-long [] = refl
-bits-long (x ∷ xs) = let e = bits-long xs in omega arith
 
 pub bits-at : (xs : List ℕ) (j : ℕ) → j < 8 * length xs → getD (bitsBytes xs) j 0 ≡ bitAt xs j
 unfolding bitsBytes bitAt
