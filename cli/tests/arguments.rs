@@ -16,7 +16,11 @@ fn wrong(arguments: &[&str]) {
     let folder = folder_of_one_block();
     let ended = ended(&mut folder.program(CHAMANZIL, arguments)).with_status(2);
     assert!(!ended.err.is_empty(), "{arguments:?}: nothing said");
-    assert_eq!(ended.out.len(), 0, "{arguments:?}: bytes on standard output");
+    assert_eq!(
+        ended.out.len(),
+        0,
+        "{arguments:?}: bytes on standard output"
+    );
     assert_eq!(folder.names(), ["image", "stream"], "{arguments:?}");
 }
 
@@ -28,8 +32,25 @@ fn wrong_line(line: &str) {
 #[test]
 fn first_is_six_hexadecimal_digits() {
     let wrong_numbers = [
-        "", "0", "30000", "0300000", "03000g", "g30000", "+30000", "-30000", "0x0300", "0x030000",
-        "03 000", " 30000", "030000 ", "03_000", "03000.", "0300é", "03000é", "０３００００", "٠٣٠٠٠٠",
+        "",
+        "0",
+        "30000",
+        "0300000",
+        "03000g",
+        "g30000",
+        "+30000",
+        "-30000",
+        "0x0300",
+        "0x030000",
+        "03 000",
+        " 30000",
+        "030000 ",
+        "03_000",
+        "03000.",
+        "0300é",
+        "03000é",
+        "０３００００",
+        "٠٣٠٠٠٠",
     ];
     for first in wrong_numbers {
         let option = format!("--first={first}");
@@ -41,9 +62,13 @@ fn first_is_six_hexadecimal_digits() {
 
 #[test]
 fn info_is_two_hexadecimal_digits() {
-    for info in ["", "0", "000", "0g", "+1", "-1", "0x", "0x0", "0x01", " 1", "1 ", "é", "²0"] {
+    for info in [
+        "", "0", "000", "0g", "+1", "-1", "0x", "0x0", "0x01", " 1", "1 ", "é", "²0",
+    ] {
         let option = format!("--info={info}");
-        wrong(&["format", "image", "-o", "stream2", "--first", "030000", &option]);
+        wrong(&[
+            "format", "image", "-o", "stream2", "--first", "030000", &option,
+        ]);
     }
 }
 
@@ -93,8 +118,20 @@ fn what_is_not_known() {
 #[test]
 fn counts_are_decimal() {
     for number in ["-1", "x", "", "1.5", "0x10", "99999999999999999999999"] {
-        wrong(&["recover", "stream", "-o", "image2", &format!("--length={number}")]);
-        wrong(&["map", "stream", "-o", "map.png", &format!("--block={number}")]);
+        wrong(&[
+            "recover",
+            "stream",
+            "-o",
+            "image2",
+            &format!("--length={number}"),
+        ]);
+        wrong(&[
+            "map",
+            "stream",
+            "-o",
+            "map.png",
+            &format!("--block={number}"),
+        ]);
     }
 }
 
@@ -107,7 +144,7 @@ fn a_map_has_a_kind() {
         "map stream -o map.png.old",
         "map stream -o png",
         "map stream -o map.png --as gif",
-        "map stream -o /dev/null",
+        "map stream -o .png/map",
     ] {
         wrong_line(line);
     }
@@ -154,10 +191,17 @@ fn an_existing_output_is_untouched() {
 #[test]
 fn options_by_their_long_names_and_in_any_order() {
     let folder = folder_of_one_block();
-    folder.run("format --first 030000 --output stream2 --info 00 image").done();
+    folder
+        .run("format --first 030000 --output stream2 --info 00 image")
+        .done();
     assert!(folder.read("stream2") == folder.read("stream"));
-    folder.run("recover --length=32768 --output=image2 stream").done();
+    folder
+        .run("recover --length=32768 --output=image2 stream")
+        .done();
     assert!(folder.read("image2") == folder.read("image"));
     folder.run("map --as html --output map stream").done();
-    assert_eq!(folder.names(), ["image", "image2", "map", "stream", "stream2"]);
+    assert_eq!(
+        folder.names(),
+        ["image", "image2", "map", "stream", "stream2"]
+    );
 }

@@ -28,7 +28,9 @@ fn stream_of_length(length: usize) -> Vec<u8> {
 }
 
 fn line_of(block: usize, left: usize) -> String {
-    format!("refused 1: {left} bytes of the stream are left, where a block has 77380 (block {block})")
+    format!(
+        "refused 1: {left} bytes of the stream are left, where a block has 77380 (block {block})"
+    )
 }
 
 #[test]
@@ -36,7 +38,9 @@ fn recover_hands_out_nothing() {
     for (length, block, left) in CUTS {
         let folder = Folder::with(&[("stream", &stream_of_length(length))]);
         let line = line_of(block, left);
-        folder.run("recover stream -o image --sheet lines").refused(&line);
+        folder
+            .run("recover stream -o image --sheet lines")
+            .refused(&line);
         folder.run("recover stream -o -").refused(&line);
         folder.run("recover stream -o - --length 1").refused(&line);
         assert_eq!(folder.names(), ["stream"], "{length}");
@@ -47,7 +51,9 @@ fn recover_hands_out_nothing() {
 fn recover_goes_on_where_asked() {
     for (length, block, left) in CUTS {
         let folder = Folder::with(&[("stream", &stream_of_length(length))]);
-        let ended = folder.run("recover stream -o image --keep-going").refused(&line_of(block, left));
+        let ended = folder
+            .run("recover stream -o image --keep-going")
+            .refused(&line_of(block, left));
         let summary = format!(
             "blocks {} refused 1 rows 0 0 columns 0 0 unknown 0 sync 0",
             block + 1
@@ -64,7 +70,10 @@ fn recover_goes_on_where_asked() {
 fn the_sheet_has_the_blocks_before() {
     for (length, block, left) in CUTS {
         let folder = Folder::with(&[("stream", &stream_of_length(length))]);
-        let ended = folder.run("sheet stream").with_status(1).said(&[&line_of(block, left)]);
+        let ended = folder
+            .run("sheet stream")
+            .with_status(1)
+            .said(&[&line_of(block, left)]);
         let read = |k| format!("block 0300{k}0 rows 0 0 columns 0 0 unknown 0 sync 0\n");
         let due: String = (0..block).map(read).chain(["refused 1\n".into()]).collect();
         assert_eq!(ended.text(), due, "{length}");
@@ -78,7 +87,11 @@ fn check_says_the_length() {
         let ended = folder.run("check stream").refused(&line_of(block, left));
         // the blocks before have nothing wrong
         let is_of_others = |line: &&str| line.starts_with("block ");
-        assert_eq!(ended.lines().into_iter().find(is_of_others), None, "{length}");
+        assert_eq!(
+            ended.lines().into_iter().find(is_of_others),
+            None,
+            "{length}"
+        );
     }
 }
 
@@ -102,9 +115,15 @@ fn map_draws_whole_blocks_only() {
 fn map_of_no_block() {
     let folder = Folder::with(&[("stream", &stream_of_length(RUN))]);
     for block in ["3", "4", "1000", "18446744073709551615"] {
-        let ended = folder.run(&format!("map stream --block {block} -o map.png")).with_status(1);
+        let ended = folder
+            .run(&format!("map stream --block {block} -o map.png"))
+            .with_status(1);
         assert!(ended.err.starts_with("refused 1: "), "{}", ended.err);
-        assert!(ended.err.ends_with(&format!("(block {block})\n")), "{}", ended.err);
+        assert!(
+            ended.err.ends_with(&format!("(block {block})\n")),
+            "{}",
+            ended.err
+        );
     }
     assert_eq!(folder.names(), ["stream"]);
 }

@@ -26,7 +26,9 @@ fn a_limit_on_the_length_of_files() {
     let folder = folder_of_four_blocks();
     for (line, name) in WRITING {
         let line = format!(r#"{LIMIT}; exec "$0" {line}"#);
-        folder.shell(&line).failed(&format!("cannot write {name}: "));
+        folder
+            .shell(&line)
+            .failed(&format!("cannot write {name}: "));
         assert_eq!(folder.names(), ["image", "stream"], "{line}");
     }
 }
@@ -38,7 +40,9 @@ fn the_older_output_stays() {
     for (line, name) in WRITING {
         folder.write(name, b"old");
         let line = format!(r#"{LIMIT}; exec "$0" {line}"#);
-        folder.shell(&line).failed(&format!("cannot write {name}: "));
+        folder
+            .shell(&line)
+            .failed(&format!("cannot write {name}: "));
         assert_eq!(folder.read(name), b"old", "{line}");
     }
     assert_eq!(folder.names(), ["image", "out", "out.png", "stream"]);
@@ -99,7 +103,10 @@ fn a_small_disk() {
             println!("skipped: no disk can be mounted here");
             return;
         };
-        let name = line.split(' ').find(|word| word.starts_with("disk/")).unwrap();
+        let name = line
+            .split(' ')
+            .find(|word| word.starts_with("disk/"))
+            .unwrap();
         ended.failed(&format!("cannot write {name}: "));
         assert_eq!(folder.read("left"), b"old\n", "{line}");
     }

@@ -17,12 +17,17 @@ const MEMORY_KB: usize = 48_000;
 /// Formats an image that is a whole number of sectors, and recovers it.
 fn there_and_back(image: &[u8], said: &[&str]) {
     let folder = Folder::with(&[("image", image)]);
-    let ended = folder.run("format image -o stream --first 030000").done().said(said);
+    let ended = folder
+        .run("format image -o stream --first 030000")
+        .done()
+        .said(said);
     assert_eq!(ended.out.len(), 0);
     assert_eq!(folder.names(), ["image", "stream"]);
     assert!(folder.read("stream") == run_of(image, 0x03_0000, 0));
 
-    let ended = folder.run(&format!("recover stream -o back --length {}", image.len())).done();
+    let ended = folder
+        .run(&format!("recover stream -o back --length {}", image.len()))
+        .done();
     assert_eq!(ended.out.len(), 0);
     assert!(folder.read("back") == image);
     folder.run("recover stream -o whole").done();
@@ -33,8 +38,14 @@ fn there_and_back(image: &[u8], said: &[&str]) {
 #[track_caller]
 fn refused_by_format(length: usize, line: &str) {
     let folder = Folder::with(&[("image", &image(1, length))]);
-    folder.run("format image -o stream --first 030000").refused(line).said(&[line]);
-    folder.run("format image -o - --first 030000").refused(line).said(&[line]);
+    folder
+        .run("format image -o stream --first 030000")
+        .refused(line)
+        .said(&[line]);
+    folder
+        .run("format image -o - --first 030000")
+        .refused(line)
+        .said(&[line]);
     assert_eq!(folder.names(), ["image"]);
 }
 
@@ -99,10 +110,14 @@ fn every_length_of_the_last_block() {
     for sectors in 1..=16 {
         let image = image(100 + sectors as u64, 20 * MAIN + sectors * IMAGE_SECTOR);
         let folder = Folder::with(&[("image", &image)]);
-        let ended = folder.run("format image -o stream --first 030000 --info 25").done();
+        let ended = folder
+            .run("format image -o stream --first 030000 --info 25")
+            .done();
         assert_eq!(ended.lines().last(), Some(&"blocks 21 sectors 336"));
         assert!(folder.read("stream") == run_of(&image, 0x03_0000, 0x25));
-        folder.run(&format!("recover stream -o back --length {}", image.len())).done();
+        folder
+            .run(&format!("recover stream -o back --length {}", image.len()))
+            .done();
         assert!(folder.read("back") == image);
     }
 }
@@ -124,12 +139,13 @@ fn large_image(folder: &Folder) {
 /// Holds the stream of the large image to the library's writer.
 fn is_large_stream(folder: &Folder) {
     let mut file = BufReader::new(File::open(folder.path("stream")).unwrap());
-    let (mut due, mut got) = ([0; BLOCK_STREAM], [0; BLOCK_STREAM]);
+    let (mut due, mut got) = (vec![0; BLOCK_STREAM], vec![0; BLOCK_STREAM]);
     let mut writer = Writer::new();
     for (k, first) in (0..LARGE_BLOCKS).zip((0x03_0000..).step_by(16)) {
         let main = zero_filled(&large_main(k));
         let main = main[..].try_into().unwrap();
-        writer = writer.write_block(main, first, 0, &mut due).unwrap();
+        let out = (&mut due[..]).try_into().unwrap();
+        writer = writer.write_block(main, first, 0, out).unwrap();
         file.read_exact(&mut got).unwrap();
         assert!(got == due, "block {k}");
     }
@@ -147,7 +163,10 @@ fn sixty_four_megabytes() {
     folder
         .run("format image -o stream --first 030000")
         .done()
-        .said(&["filled up with 14 zero sectors", "blocks 1954 sectors 31264"]);
+        .said(&[
+            "filled up with 14 zero sectors",
+            "blocks 1954 sectors 31264",
+        ]);
     is_large_stream(&folder);
 
     let summary = "blocks 1954 refused 0 rows 0 0 columns 0 0 unknown 0 sync 0";
@@ -159,7 +178,10 @@ fn sixty_four_megabytes() {
 /// The most memory that a process had so far, in KB.
 fn peak_memory(id: u32) -> usize {
     let status = fs::read_to_string(format!("/proc/{id}/status")).unwrap();
-    let line = status.lines().find(|line| line.starts_with("VmHWM:")).unwrap();
+    let line = status
+        .lines()
+        .find(|line| line.starts_with("VmHWM:"))
+        .unwrap();
     line.split_whitespace().nth(1).unwrap().parse().unwrap()
 }
 
@@ -188,5 +210,9 @@ fn memory_does_not_grow_with_the_image() {
     let stream = run_of(&image(6, 40 * MAIN), 0x03_0000, 0);
     let (block, closing) = (&stream[..40 * BLOCK_STREAM], &stream[40 * BLOCK_STREAM..]);
     let blocks = (0..20).map(|_| block.to_vec());
-    stays_small("recover - -o image", "image", blocks.chain([closing.to_vec()]));
+    stays_small(
+        "recover - -o image",
+        "image",
+        blocks.chain([closing.to_vec()]),
+    );
 }

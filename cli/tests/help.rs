@@ -9,7 +9,10 @@ use std::path::Path;
 const COMMANDS: [&str; 6] = ["format", "recover", "sheet", "map", "check", "completions"];
 
 fn help(command: &str) -> String {
-    let ended = Folder::new().run(&format!("{command} --help")).done().said(&[]);
+    let ended = Folder::new()
+        .run(&format!("{command} --help"))
+        .done()
+        .said(&[]);
     ended.text().to_string()
 }
 
@@ -17,7 +20,12 @@ fn help(command: &str) -> String {
 fn example(command: &str) -> String {
     let help = help(command);
     assert_eq!(help.matches("Example:").count(), 1, "{help}");
-    let typed = |line: &str| line.trim().trim_start_matches("Example:").trim().to_string();
+    let typed = |line: &str| {
+        line.trim()
+            .trim_start_matches("Example:")
+            .trim()
+            .to_string()
+    };
     let is_example = |line: &String| line.starts_with(&format!("chamanzil {command}"));
     let examples: Vec<String> = help.lines().map(typed).filter(is_example).collect();
     assert_eq!(examples.len(), 1, "{help}");
@@ -47,7 +55,9 @@ fn input_of(line: &str) -> String {
 
 fn output_of(line: &str) -> Option<&str> {
     let words: Vec<&str> = line.split_whitespace().collect();
-    let at = words.iter().position(|word| ["-o", "--output", ">"].contains(word))?;
+    let at = words
+        .iter()
+        .position(|word| ["-o", "--output", ">"].contains(word))?;
     words.get(at + 1).copied()
 }
 
@@ -69,7 +79,10 @@ fn each_example_runs() {
     let line = example("completions");
     let folder = Folder::new();
     let ended = typed(&folder, &line).done();
-    assert!(!ended.out.is_empty() || !folder.names().is_empty(), "{line}");
+    assert!(
+        !ended.out.is_empty() || !folder.names().is_empty(),
+        "{line}"
+    );
 }
 
 #[test]
@@ -77,7 +90,11 @@ fn the_help_names_each_command() {
     let all = Folder::new().run("--help").done();
     for command in COMMANDS {
         let is_named = |line: &str| line.trim().starts_with(&format!("{command} "));
-        assert!(all.text().lines().any(is_named), "{command}: {}", all.text());
+        assert!(
+            all.text().lines().any(is_named),
+            "{command}: {}",
+            all.text()
+        );
         assert!(help(command).len() > 100);
     }
 }
@@ -87,7 +104,10 @@ fn the_help_names_each_command() {
 fn the_help_names_each_option() {
     for (command, options) in [
         ("format", &["--output", "--first", "--info"][..]),
-        ("recover", &["--output", "--length", "--sheet", "--keep-going"]),
+        (
+            "recover",
+            &["--output", "--length", "--sheet", "--keep-going"],
+        ),
         ("map", &["--output", "--block", "--as"]),
     ] {
         let help = help(command);

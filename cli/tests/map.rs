@@ -5,7 +5,9 @@ use chamanzil::MAIN;
 use common::cells::{Cells, Class};
 use common::damage::{half_of, overwrite_rows, scratch, set_half, some_rows, spot_rows, With};
 use common::picture::Picture;
-use common::streams::{block_part, edited, frame_place, image, run_of, set_id, Numbers, FRAME_MAIN};
+use common::streams::{
+    block_part, edited, frame_place, image, run_of, set_id, Numbers, FRAME_MAIN,
+};
 use common::{ended, in_repository, Ended, Folder, CHAMANZIL};
 use std::fs;
 
@@ -18,9 +20,19 @@ fn vector(path: &str) -> Vec<u8> {
 fn says(ended: &Ended, cells: &Cells, block: usize) {
     let mut due = vec![cells.counts(), cells.sheet.clone()];
     if cells.is_refused {
-        let is_due = |line: &&str| line.starts_with(&format!("{}: ", cells.sheet)) && line.ends_with(&format!(" (block {block})"));
+        let is_due = |line: &&str| {
+            line.starts_with(&format!("{}: ", cells.sheet))
+                && line.ends_with(&format!(" (block {block})"))
+        };
         let lines = ended.lines();
-        due.insert(0, lines.into_iter().find(is_due).expect("the refusal's line").to_string());
+        due.insert(
+            0,
+            lines
+                .into_iter()
+                .find(is_due)
+                .expect("the refusal's line")
+                .to_string(),
+        );
     }
     assert_eq!(ended.lines(), due);
 }
@@ -42,7 +54,12 @@ fn drawn(stream: &[u8], block: usize) -> Cells {
 
 fn has(cells: &Cells, classes: &[Class]) {
     for class in Class::ALL {
-        assert_eq!(cells.count(class) > 0, classes.contains(&class), "{class:?}: {}", cells.counts());
+        assert_eq!(
+            cells.count(class) > 0,
+            classes.contains(&class),
+            "{class:?}: {}",
+            cells.counts()
+        );
     }
 }
 
@@ -64,7 +81,10 @@ fn a_lightly_damaged_block() {
 fn eight_dead_rows() {
     let cells = drawn(&vector("damaged/heavy8.stream"), 0);
     has(&cells, &Class::ALL);
-    assert_eq!(cells.is_row_past_help.iter().filter(|past| **past).count(), 8);
+    assert_eq!(
+        cells.is_row_past_help.iter().filter(|past| **past).count(),
+        8
+    );
     let is_parity = |i: usize| i % chamanzil::ROW >= chamanzil::ROW_DATA;
     let wrong = |i: &usize| cells.classes[*i] == Class::Wrong;
     assert!((0..chamanzil::BLOCK).filter(wrong).all(is_parity));
@@ -86,7 +106,11 @@ fn refused_with_every_byte_right() {
     let (ied, _) = edited(1, |block| block[frame_place(3, 5)] ^= 1);
     let (id, _) = edited(1, |block| set_id(block, 4, [0, 3, 0, 0x15]));
     let (edc, _) = edited(1, |block| block[frame_place(6, FRAME_MAIN)] ^= 1);
-    for (stream, sheet) in [(ied, "refused 4 frame 3"), (id, "refused 5 frame 4"), (edc, "refused 6 frame 6")] {
+    for (stream, sheet) in [
+        (ied, "refused 4 frame 3"),
+        (id, "refused 5 frame 4"),
+        (edc, "refused 6 frame 6"),
+    ] {
         let cells = drawn(&stream, 1);
         assert_eq!(cells.sheet, sheet);
         has(&cells, &[Class::Right]);
@@ -96,7 +120,9 @@ fn refused_with_every_byte_right() {
 #[test]
 fn each_block_of_a_run() {
     let stream = vector("run/run.damaged");
-    let refused: Vec<bool> = (0..3).map(|block| drawn(&stream, block).is_refused).collect();
+    let refused: Vec<bool> = (0..3)
+        .map(|block| drawn(&stream, block).is_refused)
+        .collect();
     assert_eq!(refused, [false, true, false]);
 }
 
@@ -117,7 +143,9 @@ fn random_damage() {
             }
         }
     }
-    let refused = (0..BLOCKS).filter(|k| drawn(&stream, *k).is_refused).count();
+    let refused = (0..BLOCKS)
+        .filter(|k| drawn(&stream, *k).is_refused)
+        .count();
     assert!((1..BLOCKS).contains(&refused), "{refused}");
 }
 
@@ -175,15 +203,31 @@ fn the_page_holds_the_picture_and_nothing_from_outside() {
     for block in 0..3 {
         let cells = Cells::new(block_part(&stream, block));
         let status = i32::from(cells.is_refused);
-        folder.run(&format!("map stream --block {block} -o map.png")).with_status(status);
-        let ended = folder.run(&format!("map stream --block {block} -o map.html")).with_status(status);
+        folder
+            .run(&format!("map stream --block {block} -o map.png"))
+            .with_status(status);
+        let ended = folder
+            .run(&format!("map stream --block {block} -o map.html"))
+            .with_status(status);
         says(&ended, &cells, block);
         let page = String::from_utf8(folder.read("map.html")).unwrap();
         assert!(picture_of(&page) == folder.read("map.png"));
-        for outside in ["http", "<link", "@import", "url(", "fetch(", "XMLHttpRequest", "<iframe", "//www"] {
+        for outside in [
+            "http",
+            "<link",
+            "@import",
+            "url(",
+            "fetch(",
+            "XMLHttpRequest",
+            "<iframe",
+            "//www",
+        ] {
             assert!(!page.contains(outside), "{outside}");
         }
-        assert_eq!(page.matches("src=").count(), page.matches("src=\"data:").count());
+        assert_eq!(
+            page.matches("src=").count(),
+            page.matches("src=\"data:").count()
+        );
         let title = format!("<title>Block {block} of stream: {}</title>", cells.sheet);
         assert!(page.contains(&title), "{title}");
     }

@@ -3,9 +3,10 @@ mod common;
 
 use chamanzil::MAIN;
 use common::streams::{image, run_of};
-use common::Folder;
+use common::{device, Folder};
 use std::fs;
 use std::os::unix::fs::{symlink, FileTypeExt, MetadataExt};
+use std::path::Path;
 
 const OLD: &[u8] = b"an older file";
 
@@ -21,7 +22,8 @@ fn folder_of_one_block() -> Folder {
 }
 
 const FILES: [&str; 3] = ["cut", "image", "stream"];
-const CUT: &str = "refused 1: 77379 bytes of the stream are left, where a block has 77380 (block 0)";
+const CUT: &str =
+    "refused 1: 77379 bytes of the stream are left, where a block has 77380 (block 0)";
 
 /// Each command with an output, up to that output's name.
 const TO: [&str; 4] = [
@@ -44,7 +46,9 @@ const FROM: [&str; 5] = [
 fn a_folder_that_is_not_there() {
     let folder = folder_of_one_block();
     for line in TO {
-        folder.run(&format!("{line}missing/out")).failed("cannot write missing/out: ");
+        folder
+            .run(&format!("{line}missing/out"))
+            .failed("cannot write missing/out: ");
         assert_eq!(folder.names(), FILES, "{line}");
     }
 }
@@ -53,7 +57,9 @@ fn a_folder_that_is_not_there() {
 fn a_file_where_a_folder_is_named() {
     let folder = folder_of_one_block();
     for line in TO {
-        folder.run(&format!("{line}image/out")).failed("cannot write image/out: ");
+        folder
+            .run(&format!("{line}image/out"))
+            .failed("cannot write image/out: ");
         assert_eq!(folder.names(), FILES, "{line}");
     }
 }
@@ -64,7 +70,9 @@ fn an_output_that_is_a_folder() {
     fs::create_dir(folder.path("out")).unwrap();
     for line in TO {
         for name in ["out", "out/", "."] {
-            folder.run(&format!("{line}{name}")).failed(&format!("cannot write {name}: "));
+            folder
+                .run(&format!("{line}{name}"))
+                .failed(&format!("cannot write {name}: "));
             assert_eq!(folder.names(), ["cut", "image", "out", "stream"], "{line}");
             assert_eq!(fs::read_dir(folder.path("out")).unwrap().count(), 0);
         }
@@ -75,7 +83,9 @@ fn an_output_that_is_a_folder() {
 fn an_input_that_is_not_there() {
     let folder = folder_of_one_block();
     for line in FROM {
-        let ended = folder.run(&format!("{line}missing")).failed("cannot read missing: ");
+        let ended = folder
+            .run(&format!("{line}missing"))
+            .failed("cannot read missing: ");
         assert_eq!(ended.out.len(), 0);
         assert_eq!(folder.names(), FILES, "{line}");
     }
@@ -120,8 +130,14 @@ fn an_existing_output_is_untouched_at_refusal() {
     folder.run("recover cut -o out --sheet lines").refused(CUT);
     folder.run("map cut -o out --as png").refused(CUT);
     let after = fs::metadata(folder.path("out")).unwrap();
-    assert_eq!((after.ino(), after.mtime_nsec()), (before.ino(), before.mtime_nsec()));
-    assert_eq!((folder.read("out"), folder.read("lines")), (OLD.into(), OLD.into()));
+    assert_eq!(
+        (after.ino(), after.mtime_nsec()),
+        (before.ino(), before.mtime_nsec())
+    );
+    assert_eq!(
+        (folder.read("out"), folder.read("lines")),
+        (OLD.into(), OLD.into())
+    );
     assert_eq!(folder.names(), ["cut", "image", "lines", "out", "stream"]);
 }
 
@@ -129,11 +145,19 @@ fn an_existing_output_is_untouched_at_refusal() {
 #[test]
 fn both_outputs_or_none() {
     let folder = folder_of_one_block();
-    folder.run("recover stream -o out --sheet missing/lines").failed("cannot write missing/lines: ");
-    folder.run("recover stream -o missing/out --sheet lines").failed("cannot write missing/out: ");
+    folder
+        .run("recover stream -o out --sheet missing/lines")
+        .failed("cannot write missing/lines: ");
+    folder
+        .run("recover stream -o missing/out --sheet lines")
+        .failed("cannot write missing/out: ");
     fs::create_dir(folder.path("folder")).unwrap();
-    folder.run("recover stream -o out --sheet folder").failed("cannot write folder: ");
-    folder.run("recover stream -o folder --sheet lines").failed("cannot write folder: ");
+    folder
+        .run("recover stream -o out --sheet folder")
+        .failed("cannot write folder: ");
+    folder
+        .run("recover stream -o folder --sheet lines")
+        .failed("cannot write folder: ");
     assert_eq!(folder.names(), ["cut", "folder", "image", "stream"]);
 }
 
@@ -148,18 +172,34 @@ fn in_place() {
     assert_eq!(folder.names(), FILES);
 }
 
+/// Writes every output to a device, by its name and by a link to it.
+fn stays_a_device(folder: &Folder, device: &str) {
+    let kind = |path: &Path| fs::metadata(path).unwrap().file_type();
+    let path = folder.path(device);
+    let link = folder.path("link");
+    symlink(&path, &link).unwrap();
+    for line in TO {
+        for name in [device, "link"] {
+            folder.run(&format!("{line}{name}")).done();
+            assert!(kind(&path).is_char_device(), "{line}{name}");
+        }
+    }
+    fs::remove_file(link).unwrap();
+}
+
 #[test]
 fn the_null_device_stays_a_device() {
     let folder = folder_of_one_block();
-    symlink("/dev/null", folder.path("link")).unwrap();
-    for line in TO {
-        for name in ["/dev/null", "link"] {
-            folder.run(&format!("{line}{name}")).done();
-            let kind = fs::metadata("/dev/null").unwrap().file_type();
-            assert!(kind.is_char_device(), "{line}");
-        }
+    if let Some(device) = device(&folder, "null", "3") {
+        stays_a_device(&folder, &device);
+        // what does no harm to that one does none to the machine's
+        stays_a_device(&folder, "/dev/null");
     }
-    assert_eq!(folder.names(), ["cut", "image", "image2", "link", "stream"]);
+    let before = [&FILES[..], &["image2", "null"]].concat();
+    assert!(folder
+        .names()
+        .iter()
+        .all(|name| before.contains(&&name[..])));
 }
 
 /// What is read by the link's name is the new output; a refusal changes neither the link nor what it names.
@@ -177,15 +217,25 @@ fn a_symbolic_link() {
     folder.run("recover stream -o link").done();
     assert!(folder.read("link") == folder.read("image"));
     assert_eq!(fs::read_dir(folder.path("elsewhere")).unwrap().count(), 1);
-    assert_eq!(folder.names(), ["cut", "elsewhere", "image", "link", "stream"]);
+    assert_eq!(
+        folder.names(),
+        ["cut", "elsewhere", "image", "link", "stream"]
+    );
 }
 
 #[test]
 fn permissions_are_those_of_the_umask() {
     let folder = folder_of_one_block();
-    for (umask, due) in [("022", 0o644), ("077", 0o600), ("002", 0o664), ("027", 0o640)] {
+    for (umask, due) in [
+        ("022", 0o644),
+        ("077", 0o600),
+        ("002", 0o664),
+        ("027", 0o640),
+    ] {
         for line in TO {
-            folder.shell(&format!(r#"umask {umask}; "$0" {line} out"#)).done();
+            folder
+                .shell(&format!(r#"umask {umask}; "$0" {line} out"#))
+                .done();
             let mode = fs::metadata(folder.path("out")).unwrap().mode() & 0o777;
             assert_eq!(mode, due, "{line} with umask {umask}: {mode:o}");
             fs::remove_file(folder.path("out")).unwrap();
@@ -199,7 +249,12 @@ fn odd_names() {
     use std::ffi::OsStr;
     use std::os::unix::ffi::OsStrExt;
     let folder = folder_of_one_block();
-    for name in [&b"with space"[..], b"\xFF\xFE", b".hidden", "Scheibe-ä".as_bytes()] {
+    for name in [
+        &b"with space"[..],
+        b"\xFF\xFE",
+        b".hidden",
+        "Scheibe-ä".as_bytes(),
+    ] {
         let name = OsStr::from_bytes(name);
         let mut command = folder.command("recover stream -o");
         common::ended(command.arg(name)).done();

@@ -33,9 +33,17 @@ impl Mapped {
         let page = format!("file://{folder}{name}");
         // root may not use the sandbox; one device pixel is one of the page, in its own colours
         let arguments = [
-            "--headless", "--no-sandbox", "--disable-gpu", "--hide-scrollbars", "--window-size=1600,1600",
-            "--force-device-scale-factor=1", "--force-color-profile=srgb", "--virtual-time-budget=5000",
-            &profile, option, &page,
+            "--headless",
+            "--no-sandbox",
+            "--disable-gpu",
+            "--hide-scrollbars",
+            "--window-size=1600,1600",
+            "--force-device-scale-factor=1",
+            "--force-color-profile=srgb",
+            "--virtual-time-budget=5000",
+            &profile,
+            option,
+            &page,
         ];
         let mut chromium = self.folder.program("chromium", &arguments);
         let ended = ended(chromium.env("HOME", self.folder.path("")));
@@ -47,17 +55,24 @@ impl Mapped {
     fn after_script(&self, script: &str) -> String {
         let page = String::from_utf8(self.folder.read("map.html")).unwrap();
         let script = format!("<script>addEventListener('load', () => {{ {script} }});</script>");
-        self.folder.write("copy.html", format!("{page}{script}").as_bytes());
+        self.folder
+            .write("copy.html", format!("{page}{script}").as_bytes());
         self.browse("--dump-dom", "copy.html")
     }
 }
 
 /// Whether there is a Chromium. Where there is none that is said, and it is a failure where CI is set.
 fn has_chromium() -> bool {
-    let is_there = Command::new("chromium").arg("--version").output().is_ok_and(|o| o.status.success());
+    let is_there = Command::new("chromium")
+        .arg("--version")
+        .output()
+        .is_ok_and(|o| o.status.success());
     if !is_there {
         println!("skipped: no chromium here (apt-get install chromium)");
-        assert!(std::env::var_os("CI").is_none(), "no chromium, and CI is set");
+        assert!(
+            std::env::var_os("CI").is_none(),
+            "no chromium, and CI is set"
+        );
     }
     is_there
 }
@@ -65,7 +80,9 @@ fn has_chromium() -> bool {
 /// What stands in an element of a document, which is given by how its tag begins.
 #[track_caller]
 fn inside(document: &str, tag: &str) -> String {
-    let (_, rest) = document.split_once(tag).unwrap_or_else(|| panic!("no {tag}: {document}"));
+    let (_, rest) = document
+        .split_once(tag)
+        .unwrap_or_else(|| panic!("no {tag}: {document}"));
     let (_, rest) = rest.split_once('>').unwrap();
     rest.split('<').next().unwrap().trim().to_string()
 }
@@ -79,7 +96,10 @@ fn title_and_counts() {
         let mapped = Mapped::new(vector);
         let document = mapped.browse("--dump-dom", "map.html");
         let sheet = &mapped.cells.sheet;
-        assert_eq!(inside(&document, "<title"), format!("Block 0 of stream: {sheet}"));
+        assert_eq!(
+            inside(&document, "<title"),
+            format!("Block 0 of stream: {sheet}")
+        );
         assert_eq!(inside(&document, "<p id=\"counts\""), mapped.cells.counts());
         assert_eq!(inside(&document, "<p id=\"sheet\""), *sheet);
     }
@@ -105,7 +125,13 @@ fn due_under(cells: &Cells, i: usize) -> String {
 fn hovered(mapped: &Mapped, cells: &[usize]) -> Vec<String> {
     let places: Vec<String> = cells
         .iter()
-        .map(|i| format!("[{}, {}]", LEFT + CELL * (i % ROW) + 2, TOP + CELL * (i / ROW) + 2))
+        .map(|i| {
+            format!(
+                "[{}, {}]",
+                LEFT + CELL * (i % ROW) + 2,
+                TOP + CELL * (i / ROW) + 2
+            )
+        })
         .collect();
     let script = format!(
         "const picture = document.getElementById('picture'), box = picture.getBoundingClientRect();
@@ -121,7 +147,10 @@ fn hovered(mapped: &Mapped, cells: &[usize]) -> Vec<String> {
         places.join(", ")
     );
     let document = mapped.after_script(&script);
-    inside(&document, "<pre id=\"said\"").lines().map(String::from).collect()
+    inside(&document, "<pre id=\"said\"")
+        .lines()
+        .map(String::from)
+        .collect()
 }
 
 /// Some cells of each class, the corners, and the cells beside an edge.
@@ -139,7 +168,11 @@ fn what_is_under_the_pointer() {
     if !has_chromium() {
         return;
     }
-    for vector in ["damaged/heavy8.stream", "damaged/light5.stream", "damaged/heavy9.stream"] {
+    for vector in [
+        "damaged/heavy8.stream",
+        "damaged/light5.stream",
+        "damaged/heavy9.stream",
+    ] {
         let mapped = Mapped::new(vector);
         let cells = cells_to_hover(&mapped.cells);
         let said = hovered(&mapped, &cells);
@@ -147,7 +180,11 @@ fn what_is_under_the_pointer() {
         for (i, said) in cells.into_iter().zip(said) {
             let due = due_under(&mapped.cells, i);
             // what more is said of a wrong byte is left open
-            let said = if mapped.cells.classes[i] == Class::Wrong { &said[..due.len().min(said.len())] } else { &said[..] };
+            let said = if mapped.cells.classes[i] == Class::Wrong {
+                &said[..due.len().min(said.len())]
+            } else {
+                &said[..]
+            };
             assert_eq!(said, due, "{vector}");
         }
     }
@@ -160,19 +197,20 @@ fn the_page_as_a_picture() {
         return;
     }
     let mapped = Mapped::new("damaged/heavy8.stream");
+    // Chromium puts a picture at whole pixels
     let place = "const box = document.getElementById('picture').getBoundingClientRect();
                  const said = document.createElement('pre');
                  said.id = 'said';
-                 said.append([box.left, box.top, box.width, box.height].join(' '));
+                 const at = [Math.round(box.left), Math.round(box.top)];
+                 said.append([...at, box.width, box.height].join(' '));
                  document.body.append(said);";
     let document = mapped.after_script(place);
     let said = inside(&document, "<pre id=\"said\"");
-    let numbers: Vec<f64> = said.split(' ').map(|n| n.parse().unwrap()).collect();
+    let numbers: Vec<usize> = said.split(' ').map(|n| n.parse().unwrap()).collect();
+    let (left, top) = (numbers[0], numbers[1]);
     let png = Picture::new(&mapped.folder.read("map.png"));
-    let size = [png.width as f64, png.height as f64];
+    let size = [png.width, png.height];
     assert_eq!(numbers[2..], size, "the picture is shown at its own size");
-    // Chromium puts a picture at whole pixels
-    let (left, top) = (numbers[0].round() as usize, numbers[1].round() as usize);
 
     let shot = mapped.folder.path("shot.png").display().to_string();
     mapped.browse(&format!("--screenshot={shot}"), "map.html");

@@ -18,14 +18,22 @@ fn on_a_terminal(folder: &Folder, line: &str) -> String {
 
 /// The lines that are left on a terminal: a bar is taken away by the code that clears its line.
 fn left_on_screen(shown: &str) -> Vec<&str> {
-    let lines = shown.lines().map(|line| line.rsplit("\x1B[2K").next().unwrap());
+    let lines = shown
+        .lines()
+        .map(|line| line.rsplit("\x1B[2K").next().unwrap());
     lines.filter(|line| !line.is_empty()).collect()
 }
 
 /// Each long command, and its last line on standard error.
 const LONG: [(&str, &str); 4] = [
-    ("format image -o out --first 030000", "blocks 300 sectors 4800"),
-    ("recover stream -o out", "blocks 300 refused 0 rows 0 0 columns 0 0 unknown 0 sync 0"),
+    (
+        "format image -o out --first 030000",
+        "blocks 300 sectors 4800",
+    ),
+    (
+        "recover stream -o out",
+        "blocks 300 refused 0 rows 0 0 columns 0 0 unknown 0 sync 0",
+    ),
     ("sheet stream", ""),
     ("check stream", ""),
 ];
@@ -39,12 +47,21 @@ fn a_bar_on_a_terminal() {
         let ended = folder.run(line).done();
         let shown = on_a_terminal(&folder, line);
         // a bar is drawn over itself, by a return or by codes of the terminal
-        assert!(shown.contains(['\r', '\x1B']), "{line}: no bar in {shown:?}");
-        assert!(!ended.err.contains(['\r', '\x1B']), "{line}: a bar where there is no terminal");
+        assert!(
+            shown.contains(['\r', '\x1B']),
+            "{line}: no bar in {shown:?}"
+        );
+        assert!(
+            !ended.err.contains(['\r', '\x1B']),
+            "{line}: a bar where there is no terminal"
+        );
         let due: Vec<&str> = last.lines().collect();
         assert_eq!(ended.lines(), due, "{line}");
         // what the command tells has lines of its own, and no bar is left
         let told = ended.text().lines().chain(due);
-        assert!(left_on_screen(&shown).into_iter().eq(told), "{line}: {shown:?}");
+        assert!(
+            left_on_screen(&shown).into_iter().eq(told),
+            "{line}: {shown:?}"
+        );
     }
 }

@@ -28,7 +28,9 @@ fn with_zeros(mut image: Vec<u8>, block: usize) -> Vec<u8> {
 #[test]
 fn keep_going_leaves_zeros_and_says_so() {
     let folder = Folder::with(&[("stream", &vector("run.damaged"))]);
-    let ended = folder.run("recover stream -o image --sheet lines --keep-going").with_status(1);
+    let ended = folder
+        .run("recover stream -o image --sheet lines --keep-going")
+        .with_status(1);
     // block 2 has the number that follows from block 0, so that nothing is said of it
     let ended = ended.said(&[DAMAGED_REFUSAL, DAMAGED_SUMMARY]);
     assert_eq!(ended.out.len(), 0);
@@ -36,9 +38,13 @@ fn keep_going_leaves_zeros_and_says_so() {
     assert_eq!(folder.read("lines"), DAMAGED_SHEET.as_bytes());
     assert_eq!(folder.names(), ["image", "lines", "stream"]);
 
-    let ended = folder.run("recover stream -o - --keep-going").with_status(1);
+    let ended = folder
+        .run("recover stream -o - --keep-going")
+        .with_status(1);
     assert!(ended.out == with_zeros(vector("run.main"), 1));
-    let ended = folder.run("recover stream -o image --keep-going --sheet -").with_status(1);
+    let ended = folder
+        .run("recover stream -o image --keep-going --sheet -")
+        .with_status(1);
     assert_eq!(ended.text(), DAMAGED_SHEET);
 }
 
@@ -46,17 +52,26 @@ fn keep_going_leaves_zeros_and_says_so() {
 fn keep_going_without_a_refused_block() {
     let folder = Folder::with(&[("stream", &vector("run.stream"))]);
     let summary = "blocks 3 refused 0 rows 0 0 columns 0 0 unknown 0 sync 0";
-    folder.run("recover stream -o image --keep-going").done().said(&[summary]);
+    folder
+        .run("recover stream -o image --keep-going")
+        .done()
+        .said(&[summary]);
     assert!(folder.read("image") == vector("run.main"));
 }
 
 #[test]
 fn without_keep_going_nothing_is_there() {
     let folder = Folder::with(&[("stream", &vector("run.damaged"))]);
-    folder.run("recover stream -o image --sheet lines").refused(DAMAGED_REFUSAL);
-    folder.run("recover stream -o - --sheet lines").refused(DAMAGED_REFUSAL);
+    folder
+        .run("recover stream -o image --sheet lines")
+        .refused(DAMAGED_REFUSAL);
+    folder
+        .run("recover stream -o - --sheet lines")
+        .refused(DAMAGED_REFUSAL);
     // also where what is asked for ends before the refused block
-    folder.run("recover stream -o image --length 32768").refused(DAMAGED_REFUSAL);
+    folder
+        .run("recover stream -o image --length 32768")
+        .refused(DAMAGED_REFUSAL);
     assert_eq!(folder.names(), ["stream"]);
 }
 
@@ -79,21 +94,36 @@ fn eight_heavy_rows_in_each_block_are_recovered() {
     assert!(folder.read("image") == main);
     let lines = String::from_utf8(folder.read("lines")).unwrap();
     let past_help = |line: &str| line.split(' ').nth(4) == Some("8");
-    assert_eq!(lines.lines().filter(|line| past_help(line)).count(), BLOCKS, "{lines}");
+    assert_eq!(
+        lines.lines().filter(|line| past_help(line)).count(),
+        BLOCKS,
+        "{lines}"
+    );
     assert_eq!(ended.lines(), [summary_of(&lines)]);
 }
 
 /// The summary that follows from a sheet's lines.
 fn summary_of(lines: &str) -> String {
-    let read: Vec<Vec<&str>> = lines.lines().map(|line| line.split(' ').collect()).collect();
+    let read: Vec<Vec<&str>> = lines
+        .lines()
+        .map(|line| line.split(' ').collect())
+        .collect();
     let refused = read.iter().filter(|words| words[0] == "refused").count();
     let sum = |place: usize| -> u32 {
         let blocks = read.iter().filter(|words| words[0] == "block");
-        blocks.map(|words| words[place].parse::<u32>().unwrap()).sum()
+        blocks
+            .map(|words| words[place].parse::<u32>().unwrap())
+            .sum()
     };
     format!(
         "blocks {} refused {refused} rows {} {} columns {} {} unknown {} sync {}",
-        read.len(), sum(3), sum(4), sum(6), sum(7), sum(9), sum(11)
+        read.len(),
+        sum(3),
+        sum(4),
+        sum(6),
+        sum(7),
+        sum(9),
+        sum(11)
     )
 }
 
@@ -124,12 +154,21 @@ fn many_blocks_keep_their_places() {
         main = with_zeros(main, k);
     }
     let folder = Folder::with(&[("stream", &stream)]);
-    let ended = folder.run("recover stream -o image --sheet lines --keep-going").with_status(1);
+    let ended = folder
+        .run("recover stream -o image --sheet lines --keep-going")
+        .with_status(1);
     assert!(folder.read("image") == main);
-    let refused: Vec<&str> = ended.lines().into_iter().filter(|l| l.starts_with("refused 6 frame ")).collect();
+    let refused: Vec<&str> = ended
+        .lines()
+        .into_iter()
+        .filter(|l| l.starts_with("refused 6 frame "))
+        .collect();
     assert_eq!(refused.len(), 8);
     for (line, k) in refused.iter().zip((2..).step_by(5)) {
-        assert!(line.ends_with(&format!(": the frame's EDC differs (block {k})")), "{line}");
+        assert!(
+            line.ends_with(&format!(": the frame's EDC differs (block {k})")),
+            "{line}"
+        );
     }
     let sheet = folder.run("sheet stream").with_status(1);
     assert_eq!(sheet.text().as_bytes(), folder.read("lines"));
@@ -141,11 +180,18 @@ fn lengths_at_the_edges_of_blocks() {
     let main = vector("run.main");
     let folder = Folder::with(&[("stream", &vector("run.stream"))]);
     for length in [0, 1, 32_767, 32_768, 32_769, 65_536, 98_303, 98_304] {
-        folder.run(&format!("recover stream -o image --sheet lines --length {length}")).done();
+        folder
+            .run(&format!(
+                "recover stream -o image --sheet lines --length {length}"
+            ))
+            .done();
         assert!(folder.read("image") == main[..length], "{length}");
         // the sheet is of the whole run
-        assert_eq!(folder.read("lines").iter().filter(|byte| **byte == b'\n').count(), 3);
-        let ended = folder.run(&format!("recover stream -o - --length {length}")).done();
+        let lines = String::from_utf8(folder.read("lines")).unwrap();
+        assert_eq!(lines.lines().count(), 3);
+        let ended = folder
+            .run(&format!("recover stream -o - --length {length}"))
+            .done();
         assert!(ended.out == main[..length], "{length}");
     }
 }
@@ -156,9 +202,15 @@ fn a_length_that_is_too_long() {
     for length in ["98305", "99999", "18446744073709551615"] {
         let line = format!("refused 1: --length {length}, where 3 blocks have 98304 bytes");
         for output in ["image", "old", "-"] {
-            folder.run(&format!("recover stream -o {output} --length {length}")).refused(&line);
+            folder
+                .run(&format!("recover stream -o {output} --length {length}"))
+                .refused(&line);
         }
-        folder.run(&format!("recover stream -o image --sheet lines --length {length}")).refused(&line);
+        folder
+            .run(&format!(
+                "recover stream -o image --sheet lines --length {length}"
+            ))
+            .refused(&line);
     }
     assert_eq!(folder.names(), ["old", "stream"]);
     assert_eq!(folder.read("old"), b"old");
@@ -167,7 +219,10 @@ fn a_length_that_is_too_long() {
 /// Blocks with these numbers, whatever comes before them.
 fn numbered(main: &[u8], numbers: &[u32]) -> Vec<Block> {
     let mains = main.chunks_exact(MAIN);
-    mains.zip(numbers).map(|(main, first)| block_of(main, *first, 0)).collect()
+    mains
+        .zip(numbers)
+        .map(|(main, first)| block_of(main, *first, 0))
+        .collect()
 }
 
 #[test]
@@ -191,8 +246,13 @@ fn a_jump_over_a_refused_block() {
     let mut stream = run_of_blocks(&numbered(&main, &numbers));
     stream[BLOCK_STREAM + 8..2 * BLOCK_STREAM - 8].fill(0x24);
     let folder = Folder::with(&[("stream", &stream)]);
-    let ended = folder.run("recover stream -o image --keep-going").with_status(1);
-    assert_eq!(ended.times("block 2 has number 030030, where 030020 follows"), 1);
+    let ended = folder
+        .run("recover stream -o image --keep-going")
+        .with_status(1);
+    assert_eq!(
+        ended.times("block 2 has number 030030, where 030020 follows"),
+        1
+    );
     assert_eq!(ended.err.matches("follows").count(), 1, "{}", ended.err);
     assert!(folder.read("image") == with_zeros(main, 1));
 }

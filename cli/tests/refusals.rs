@@ -69,7 +69,11 @@ fn first_number_and_information_arrive_as_given() {
     let image = image(71, MAIN);
     let folder = Folder::with(&[("image", &image)]);
     for (first, info, number, byte) in given {
-        folder.run(&format!("format image -o stream --first {first} --info {info}")).done();
+        folder
+            .run(&format!(
+                "format image -o stream --first {first} --info {info}"
+            ))
+            .done();
         let stream = folder.read("stream");
         assert_eq!(id_of(&stream), (byte, number));
         assert!(stream == run_of(&image, number, byte));
@@ -103,31 +107,50 @@ impl Spoiled {
 }
 
 fn spoiled(number: u8, frame: usize, edit: fn(&mut [u8; BLOCK])) -> Spoiled {
-    Spoiled { edit, number, frame }
+    Spoiled {
+        edit,
+        number,
+        frame,
+    }
+}
+
+/// `recover` hands out nothing of a run with a refused block, neither on standard output nor in a file.
+fn recover_is_refused(folder: &Folder, line: &str) {
+    for outputs in [
+        "-o image --sheet lines",
+        "-o old",
+        "-o -",
+        "-o image --sheet -",
+    ] {
+        let command = format!("recover stream {outputs}");
+        folder.run(&command).refused(line);
+        folder.run(&format!("{command} --length 5")).refused(line);
+        assert_eq!(folder.names(), ["old", "stream"], "{outputs}");
+        assert_eq!(folder.read("old"), b"old", "{outputs}");
+    }
 }
 
 /// Holds every command to what a run with a spoiled block gets.
 fn refused_in_block(spoiled: &Spoiled, block: usize) {
     let (stream, main) = edited(block, spoiled.edit);
     let folder = Folder::with(&[("stream", &stream), ("old", b"old")]);
-    let line = spoiled.line(block);
-    for arguments in ["-o image --sheet lines", "-o old", "-o -", "-o image --sheet -"] {
-        folder.run(&format!("recover stream {arguments}")).refused(&line);
-        folder.run(&format!("recover stream {arguments} --length 5")).refused(&line);
-    }
-    assert_eq!(folder.names(), ["old", "stream"]);
-    assert_eq!(folder.read("old"), b"old");
+    let (line, sheet) = (spoiled.line(block), spoiled.sheet());
+    recover_is_refused(&folder, &line);
 
     let ended = folder.run("sheet stream").with_status(1).said(&[&line]);
-    let sheet: Vec<&str> = ended.text().lines().collect();
-    assert_eq!((sheet.len(), sheet[block]), (3, &spoiled.sheet()[..]));
-    assert_eq!(sheet.iter().filter(|line| line.starts_with("block 0300")).count(), 2);
+    let mut due: Vec<String> = (0..3)
+        .map(|k| format!("block 0300{k}0 rows 0 0 columns 0 0 unknown 0 sync 0"))
+        .collect();
+    due[block].clone_from(&sheet);
+    assert_eq!(ended.text().lines().collect::<Vec<_>>(), due);
 
-    let ended = folder.run(&format!("map stream --block {block} -o map.png")).refused(&line);
-    assert_eq!(ended.lines().last(), Some(&&spoiled.sheet()[..]));
+    let map = format!("map stream --block {block} -o map.png");
+    let ended = folder.run(&map).refused(&line);
+    assert_eq!(ended.lines().last(), Some(&&sheet[..]));
     assert!(folder.read("map.png").starts_with(b"\x89PNG"));
 
-    folder.run("recover stream -o image --keep-going").refused(&line);
+    let keep_going = "recover stream -o image --keep-going";
+    folder.run(keep_going).refused(&line);
     let mut due = main;
     due[block * MAIN..][..MAIN].fill(0);
     assert!(folder.read("image") == due, "{line}");
@@ -192,7 +215,9 @@ fn two_refused_blocks() {
     let mut blocks = blocks_of(&main, 0x03_0000);
     blocks[0][frame_place(3, 5)] ^= 1;
     blocks[2][frame_place(8, FRAME_MAIN)] ^= 1;
-    blocks.iter_mut().for_each(|block| with_parity(block));
+    for block in &mut blocks {
+        with_parity(block);
+    }
     let stream = run_of_blocks(&blocks);
     let folder = Folder::with(&[("stream", &stream)]);
     let (first, second) = (
@@ -201,8 +226,13 @@ fn two_refused_blocks() {
     );
     let ended = folder.run("recover stream -o image").refused(first);
     assert_eq!(ended.times(second), 0);
-    folder.run("sheet stream").with_status(1).said(&[first, second]);
-    let ended = folder.run("recover stream -o - --keep-going").with_status(1);
+    folder
+        .run("sheet stream")
+        .with_status(1)
+        .said(&[first, second]);
+    let ended = folder
+        .run("recover stream -o - --keep-going")
+        .with_status(1);
     assert_eq!(ended.lines()[..2], [first, second]);
     assert!(ended.out[MAIN..2 * MAIN] == main[MAIN..2 * MAIN]);
 }

@@ -24,7 +24,9 @@ fn table(folder: &str) -> Vec<Vec<String>> {
 fn sheet_is(stream: &[u8], due: &[String]) {
     let folder = Folder::with(&[("stream", stream)]);
     let is_refused = due.iter().any(|line| line.starts_with("refused"));
-    let ended = folder.run("sheet stream").with_status(i32::from(is_refused));
+    let ended = folder
+        .run("sheet stream")
+        .with_status(i32::from(is_refused));
     assert_eq!(ended.text().lines().collect::<Vec<_>>(), due);
     assert!(ended.text().ends_with('\n'));
     // each refusal is said on standard error too, and nothing else
@@ -41,7 +43,9 @@ fn vectors_of_damaged_blocks() {
     let table = table("damaged");
     assert_eq!(table.len(), 8);
     for line in table {
-        let [name, due] = &line[..] else { panic!("{line:?}") };
+        let [name, due] = &line[..] else {
+            panic!("{line:?}")
+        };
         let stream = vector("damaged", &format!("{name}.stream"));
         // one byte more than a block is a block and the start of another, which is the one that is refused
         let whole = (name == "long").then(|| sheet_line(block_part(&stream, 0)).0);
@@ -78,7 +82,10 @@ fn damaged_run(seed: u64, blocks: usize) -> Vec<u8> {
                 let with = With::either(&mut numbers);
                 overwrite_rows(&mut numbers, &mut stream, k, &rows, with);
             }
-            4 => flip_bits(&mut numbers, &mut stream[k * BLOCK_STREAM..][..BLOCK_STREAM]),
+            4 => flip_bits(
+                &mut numbers,
+                &mut stream[k * BLOCK_STREAM..][..BLOCK_STREAM],
+            ),
             _ => {
                 let lost = numbers.bytes(BLOCK_STREAM);
                 stream[k * BLOCK_STREAM..][..BLOCK_STREAM].copy_from_slice(&lost);
@@ -99,7 +106,11 @@ fn flip_bits(numbers: &mut Numbers, part: &mut [u8]) {
 fn beside_the_proved_program() {
     const BLOCKS: usize = 80;
     let program = in_repository("target/bin/sheet");
-    assert!(program.exists(), "no {}: run rt check sheet", program.display());
+    assert!(
+        program.exists(),
+        "no {}: run rt check sheet",
+        program.display()
+    );
     let stream = damaged_run(110, BLOCKS);
     let folder = Folder::with(&[("stream", &stream)]);
     let ended = folder.run("sheet stream").with_status(1);
@@ -112,6 +123,9 @@ fn beside_the_proved_program() {
         assert_eq!(due.text(), format!("{line}\n"), "block {k}");
     }
     // both kinds are there
-    let refused = lines.iter().filter(|line| line.starts_with("refused")).count();
+    let refused = lines
+        .iter()
+        .filter(|line| line.starts_with("refused"))
+        .count();
     assert!((10..BLOCKS - 20).contains(&refused), "{refused} refused");
 }

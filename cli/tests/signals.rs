@@ -21,10 +21,10 @@ fn half_way(folder: &Folder, line: &str, input: &[u8]) -> (Child, ChildStdin) {
     (child, stdin)
 }
 
-/// The names of the outputs under way.
+/// The names of the outputs under way, which are hidden.
 fn parts(folder: &Folder) -> Vec<String> {
     let names = folder.names().into_iter();
-    names.filter(|name| name.ends_with(".part")).collect()
+    names.filter(|name| name.starts_with('.')).collect()
 }
 
 /// Interrupts the command when its outputs are under way.
@@ -33,11 +33,16 @@ fn interrupted(line: &str, outputs: &[&str], input: &[u8]) {
         for is_older in [false, true] {
             let folder = Folder::new();
             if is_older {
-                outputs.iter().for_each(|output| folder.write(output, b"old"));
+                for output in outputs {
+                    folder.write(output, b"old");
+                }
             }
             let before = folder.names();
             let (child, stdin) = half_way(&folder, line, input);
-            let due: Vec<String> = outputs.iter().map(|o| format!(".{o}.{}.part", child.id())).collect();
+            let due: Vec<String> = outputs
+                .iter()
+                .map(|o| format!(".{o}.{}.part", child.id()))
+                .collect();
             until("outputs under way", || parts(&folder) == due);
             send_signal(name, child.id());
             let ended = finished(child);
@@ -61,7 +66,11 @@ fn format() {
 fn recover() {
     let stream = run_of(&image(61, BLOCKS * MAIN), 0x03_0000, 0);
     interrupted("recover - -o image", &["image"], &stream);
-    interrupted("recover - -o image --sheet lines", &["image", "lines"], &stream);
+    interrupted(
+        "recover - -o image --sheet lines",
+        &["image", "lines"],
+        &stream,
+    );
     interrupted("recover - -o image --keep-going", &["image"], &stream);
 }
 

@@ -102,9 +102,12 @@ impl Cells {
     fn classified(&self) -> Vec<Class> {
         let mut same_data = self.repaired.clone();
         with_parity(&mut same_data);
-        let is_wrong = |i: usize| match self.is_refused {
-            true => self.is_past_help(i / ROW, i % ROW),
-            false => self.repaired[i] != same_data[i],
+        let is_wrong = |i: usize| {
+            if self.is_refused {
+                self.is_past_help(i / ROW, i % ROW)
+            } else {
+                self.repaired[i] != same_data[i]
+            }
         };
         let class = |i: usize| match () {
             () if is_wrong(i) => Class::Wrong,
@@ -133,7 +136,10 @@ impl Cells {
 }
 
 fn as_read(meanings: &[Option<u8>]) -> Block {
-    let bytes: Vec<u8> = meanings.iter().map(|meaning| meaning.unwrap_or(0)).collect();
+    let bytes: Vec<u8> = meanings
+        .iter()
+        .map(|meaning| meaning.unwrap_or(0))
+        .collect();
     bytes.into_boxed_slice().try_into().unwrap()
 }
 

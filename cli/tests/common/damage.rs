@@ -49,7 +49,13 @@ impl With {
 }
 
 /// Overwrites rows of block k of a run, SYNC Codes and all.
-pub fn overwrite_rows(numbers: &mut Numbers, stream: &mut [u8], k: usize, rows: &[usize], with: With) {
+pub fn overwrite_rows(
+    numbers: &mut Numbers,
+    stream: &mut [u8],
+    k: usize,
+    rows: &[usize],
+    with: With,
+) {
     let count = stream.len() / 2;
     for row in rows {
         let start = (k * BLOCK_STREAM + row * ROW_STREAM) / 2;

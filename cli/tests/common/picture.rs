@@ -23,14 +23,24 @@ impl Picture {
         let info = reader.next_frame(&mut bytes).unwrap();
         let kind = (info.color_type, info.bit_depth);
         assert_eq!(kind, (png::ColorType::Rgb, png::BitDepth::Eight));
-        let pixels: Vec<[u8; 3]> = bytes.chunks_exact(3).map(|p| p.try_into().unwrap()).collect();
+        let pixels: Vec<[u8; 3]> = bytes
+            .chunks_exact(3)
+            .map(|p| p.try_into().unwrap())
+            .collect();
         let (width, height) = (info.width as usize, info.height as usize);
         assert_eq!(pixels.len(), width * height);
-        Picture { width, height, pixels }
+        Picture {
+            width,
+            height,
+            pixels,
+        }
     }
 
     pub fn at(&self, x: usize, y: usize) -> [u8; 3] {
-        assert!(x < self.width && y < self.height, "({x}, {y}) is outside the picture");
+        assert!(
+            x < self.width && y < self.height,
+            "({x}, {y}) is outside the picture"
+        );
         self.pixels[y * self.width + x]
     }
 
@@ -40,7 +50,13 @@ impl Picture {
         let colour = self.at(x, y);
         for dy in 0..height {
             for dx in 0..width {
-                assert_eq!(self.at(x + dx, y + dy), colour, "at ({}, {})", x + dx, y + dy);
+                assert_eq!(
+                    self.at(x + dx, y + dy),
+                    colour,
+                    "at ({}, {})",
+                    x + dx,
+                    y + dy
+                );
             }
         }
         colour
@@ -55,7 +71,12 @@ impl Picture {
     }
 
     fn column_mark(&self, place: usize) -> [u8; 3] {
-        self.colour_of(LEFT + CELL * place, TOP + CELL * COLUMN + CELL, CELL, 2 * CELL)
+        self.colour_of(
+            LEFT + CELL * place,
+            TOP + CELL * COLUMN + CELL,
+            CELL,
+            2 * CELL,
+        )
     }
 
     /// Every cell has its class's colour, and every row and column past help its mark.
@@ -63,7 +84,11 @@ impl Picture {
     pub fn shows(&self, cells: &Cells) {
         for (i, class) in cells.classes.iter().enumerate() {
             let (row, place) = (i / ROW, i % ROW);
-            assert_eq!(self.cell(row, place), class.colour(), "row {row}, place {place}: {class:?}");
+            assert_eq!(
+                self.cell(row, place),
+                class.colour(),
+                "row {row}, place {place}: {class:?}"
+            );
         }
         let mark = |is_past_help: bool| if is_past_help { MARK } else { WHITE };
         for (row, is_past_help) in cells.is_row_past_help.into_iter().enumerate() {
@@ -71,13 +96,19 @@ impl Picture {
         }
         for place in 0..ROW {
             let is_past_help = place < ROW_DATA && cells.is_column_past_help[place];
-            assert_eq!(self.column_mark(place), mark(is_past_help), "mark of column {place}");
+            assert_eq!(
+                self.column_mark(place),
+                mark(is_past_help),
+                "mark of column {place}"
+            );
         }
     }
 
     /// Whether something other than background stands below the cells and their marks.
     pub fn has_a_legend(&self) -> bool {
         let from = TOP + CELL * COLUMN + 4 * CELL;
-        self.pixels[from * self.width..].iter().any(|pixel| *pixel != WHITE)
+        self.pixels[from * self.width..]
+            .iter()
+            .any(|pixel| *pixel != WHITE)
     }
 }

@@ -51,7 +51,8 @@ pub fn image(seed: u64, length: usize) -> Vec<u8> {
 /// An image of whole sectors, filled up with zeros to whole blocks.
 pub fn zero_filled(image: &[u8]) -> Vec<u8> {
     let mut filled = image.to_vec();
-    filled.resize(image.len().div_ceil(MAIN) * MAIN, 0);
+    let blocks = image.chunks(MAIN).count();
+    filled.resize(blocks * MAIN, 0);
     filled
 }
 
@@ -61,7 +62,10 @@ pub fn run_of(image: &[u8], first: u32, info: u8) -> Vec<u8> {
     let mut stream = vec![0; filled.len() / MAIN * BLOCK_STREAM + CLOSING];
     let mut writer = Writer::new();
     let mut number = first;
-    for (main, out) in filled.chunks_exact(MAIN).zip(stream.chunks_exact_mut(BLOCK_STREAM)) {
+    for (main, out) in filled
+        .chunks_exact(MAIN)
+        .zip(stream.chunks_exact_mut(BLOCK_STREAM))
+    {
         let (main, out) = (main.try_into().unwrap(), out.try_into().unwrap());
         writer = writer.write_block(main, number, info, out).unwrap();
         number += 16;
@@ -72,7 +76,9 @@ pub fn run_of(image: &[u8], first: u32, info: u8) -> Vec<u8> {
 
 fn close(writer: Writer, stream: &mut [u8]) {
     let closing = stream.len() - CLOSING;
-    writer.close((&mut stream[closing..]).try_into().unwrap()).unwrap();
+    writer
+        .close((&mut stream[closing..]).try_into().unwrap())
+        .unwrap();
 }
 
 /// The bytes from which block k of a run is read.
@@ -117,7 +123,10 @@ pub fn block_of(main: &[u8], first: u32, info: u8) -> Block {
 pub fn blocks_of(image: &[u8], first: u32) -> Vec<Block> {
     let numbers = (first..).step_by(16);
     let mains = image.chunks_exact(MAIN);
-    mains.zip(numbers).map(|(main, number)| block_of(main, number, 0)).collect()
+    mains
+        .zip(numbers)
+        .map(|(main, number)| block_of(main, number, 0))
+        .collect()
 }
 
 /// An ID in frame k of a block, with the IED that is right for it.
