@@ -144,7 +144,7 @@ fn a_map_has_a_kind() {
         "map stream -o map.png.old",
         "map stream -o png",
         "map stream -o map.png --as gif",
-        "map stream -o /dev/null",
+        "map stream -o .png/map",
     ] {
         wrong_line(line);
     }

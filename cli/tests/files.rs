@@ -139,12 +139,13 @@ fn large_image(folder: &Folder) {
 /// Holds the stream of the large image to the library's writer.
 fn is_large_stream(folder: &Folder) {
     let mut file = BufReader::new(File::open(folder.path("stream")).unwrap());
-    let (mut due, mut got) = ([0; BLOCK_STREAM], [0; BLOCK_STREAM]);
+    let (mut due, mut got) = (vec![0; BLOCK_STREAM], vec![0; BLOCK_STREAM]);
     let mut writer = Writer::new();
     for (k, first) in (0..LARGE_BLOCKS).zip((0x03_0000..).step_by(16)) {
         let main = zero_filled(&large_main(k));
         let main = main[..].try_into().unwrap();
-        writer = writer.write_block(main, first, 0, &mut due).unwrap();
+        let out = (&mut due[..]).try_into().unwrap();
+        writer = writer.write_block(main, first, 0, out).unwrap();
         file.read_exact(&mut got).unwrap();
         assert!(got == due, "block {k}");
     }

@@ -197,19 +197,20 @@ fn the_page_as_a_picture() {
         return;
     }
     let mapped = Mapped::new("damaged/heavy8.stream");
+    // Chromium puts a picture at whole pixels
     let place = "const box = document.getElementById('picture').getBoundingClientRect();
                  const said = document.createElement('pre');
                  said.id = 'said';
-                 said.append([box.left, box.top, box.width, box.height].join(' '));
+                 const at = [Math.round(box.left), Math.round(box.top)];
+                 said.append([...at, box.width, box.height].join(' '));
                  document.body.append(said);";
     let document = mapped.after_script(place);
     let said = inside(&document, "<pre id=\"said\"");
-    let numbers: Vec<f64> = said.split(' ').map(|n| n.parse().unwrap()).collect();
+    let numbers: Vec<usize> = said.split(' ').map(|n| n.parse().unwrap()).collect();
+    let (left, top) = (numbers[0], numbers[1]);
     let png = Picture::new(&mapped.folder.read("map.png"));
-    let size = [png.width as f64, png.height as f64];
+    let size = [png.width, png.height];
     assert_eq!(numbers[2..], size, "the picture is shown at its own size");
-    // Chromium puts a picture at whole pixels
-    let (left, top) = (numbers[0].round() as usize, numbers[1].round() as usize);
 
     let shot = mapped.folder.path("shot.png").display().to_string();
     mapped.browse(&format!("--screenshot={shot}"), "map.html");

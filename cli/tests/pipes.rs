@@ -3,7 +3,7 @@ mod common;
 
 use chamanzil::MAIN;
 use common::streams::{image, run_of};
-use common::{ended, fed, finished, Folder, CHAMANZIL};
+use common::{device, ended, fed, finished, Folder, CHAMANZIL};
 use std::fs;
 use std::io::Write;
 use std::os::unix::fs::FileTypeExt;
@@ -117,19 +117,17 @@ fn a_named_pipe_as_input_and_output() {
         .is_fifo());
 }
 
+/// By names in /proc, where nothing can be put in the place of a pipe.
 #[test]
 fn standard_streams_by_their_names() {
+    const LINE: &str = "recover /proc/self/fd/0 -o /proc/self/fd/1";
     let (image, stream) = two_blocks();
     let folder = Folder::new();
-    let ended = folder
-        .pipe("recover /dev/stdin -o /dev/stdout", &stream)
-        .done();
+    let ended = folder.pipe(LINE, &stream).done();
     assert!(ended.out == image);
     // of a cut stream the first block could be handed out, and is not
-    let ended = folder.pipe("recover /dev/stdin -o /dev/stdout", &stream[..100_000]);
-    ended.refused(
-        "refused 1: 22624 bytes of the stream are left, where a block has 77380 (block 1)",
-    );
+    let line = "refused 1: 22624 bytes of the stream are left, where a block has 77380 (block 1)";
+    folder.pipe(LINE, &stream[..100_000]).refused(line);
 }
 
 /// The command's output goes to a pipe whose reader has gone before anything was written.
@@ -178,20 +176,21 @@ fn completions_to_a_full_disk() {
 #[test]
 fn a_full_device_beside_a_file() {
     let folder = Folder::with(&[("stream", &two_blocks().1)]);
-    folder
-        .run("recover stream -o /dev/full")
-        .failed("cannot write /dev/full: ");
-    folder
-        .run("recover stream -o /dev/full --sheet lines")
-        .failed("cannot write /dev/full: ");
-    assert_eq!(folder.names(), ["stream"]);
-    folder
-        .run("recover stream -o image --sheet /dev/full")
-        .failed("cannot write /dev/full: ");
-    assert_eq!(folder.names(), ["stream"]);
     let line = r#""$0" recover stream -o image --sheet - > /dev/full"#;
     folder.shell(line).failed("cannot write standard output: ");
+    let line = r#""$0" recover stream -o - --sheet lines > /dev/full"#;
+    folder.shell(line).failed("cannot write standard output: ");
     assert_eq!(folder.names(), ["stream"]);
+
+    let Some(full) = device(&folder, "full", "7") else {
+        return;
+    };
+    let before = folder.names();
+    for outputs in ["-o FULL", "-o FULL --sheet lines", "-o image --sheet FULL"] {
+        let line = format!("recover stream {}", outputs.replace("FULL", &full));
+        folder.run(&line).failed(&format!("cannot write {full}: "));
+        assert_eq!(folder.names(), before, "{outputs}");
+    }
 }
 
 /// Standard input may be closed altogether.

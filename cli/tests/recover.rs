@@ -187,14 +187,8 @@ fn lengths_at_the_edges_of_blocks() {
             .done();
         assert!(folder.read("image") == main[..length], "{length}");
         // the sheet is of the whole run
-        assert_eq!(
-            folder
-                .read("lines")
-                .iter()
-                .filter(|byte| **byte == b'\n')
-                .count(),
-            3
-        );
+        let lines = String::from_utf8(folder.read("lines")).unwrap();
+        assert_eq!(lines.lines().count(), 3);
         let ended = folder
             .run(&format!("recover stream -o - --length {length}"))
             .done();

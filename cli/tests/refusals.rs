@@ -114,47 +114,43 @@ fn spoiled(number: u8, frame: usize, edit: fn(&mut [u8; BLOCK])) -> Spoiled {
     }
 }
 
-/// Holds every command to what a run with a spoiled block gets.
-fn refused_in_block(spoiled: &Spoiled, block: usize) {
-    let (stream, main) = edited(block, spoiled.edit);
-    let folder = Folder::with(&[("stream", &stream), ("old", b"old")]);
-    let line = spoiled.line(block);
-    for arguments in [
+/// `recover` hands out nothing of a run with a refused block, neither on standard output nor in a file.
+fn recover_is_refused(folder: &Folder, line: &str) {
+    for outputs in [
         "-o image --sheet lines",
         "-o old",
         "-o -",
         "-o image --sheet -",
     ] {
-        folder
-            .run(&format!("recover stream {arguments}"))
-            .refused(&line);
-        folder
-            .run(&format!("recover stream {arguments} --length 5"))
-            .refused(&line);
+        let command = format!("recover stream {outputs}");
+        folder.run(&command).refused(line);
+        folder.run(&format!("{command} --length 5")).refused(line);
+        assert_eq!(folder.names(), ["old", "stream"], "{outputs}");
+        assert_eq!(folder.read("old"), b"old", "{outputs}");
     }
-    assert_eq!(folder.names(), ["old", "stream"]);
-    assert_eq!(folder.read("old"), b"old");
+}
+
+/// Holds every command to what a run with a spoiled block gets.
+fn refused_in_block(spoiled: &Spoiled, block: usize) {
+    let (stream, main) = edited(block, spoiled.edit);
+    let folder = Folder::with(&[("stream", &stream), ("old", b"old")]);
+    let (line, sheet) = (spoiled.line(block), spoiled.sheet());
+    recover_is_refused(&folder, &line);
 
     let ended = folder.run("sheet stream").with_status(1).said(&[&line]);
-    let sheet: Vec<&str> = ended.text().lines().collect();
-    assert_eq!((sheet.len(), sheet[block]), (3, &spoiled.sheet()[..]));
-    assert_eq!(
-        sheet
-            .iter()
-            .filter(|line| line.starts_with("block 0300"))
-            .count(),
-        2
-    );
+    let mut due: Vec<String> = (0..3)
+        .map(|k| format!("block 0300{k}0 rows 0 0 columns 0 0 unknown 0 sync 0"))
+        .collect();
+    due[block].clone_from(&sheet);
+    assert_eq!(ended.text().lines().collect::<Vec<_>>(), due);
 
-    let ended = folder
-        .run(&format!("map stream --block {block} -o map.png"))
-        .refused(&line);
-    assert_eq!(ended.lines().last(), Some(&&spoiled.sheet()[..]));
+    let map = format!("map stream --block {block} -o map.png");
+    let ended = folder.run(&map).refused(&line);
+    assert_eq!(ended.lines().last(), Some(&&sheet[..]));
     assert!(folder.read("map.png").starts_with(b"\x89PNG"));
 
-    folder
-        .run("recover stream -o image --keep-going")
-        .refused(&line);
+    let keep_going = "recover stream -o image --keep-going";
+    folder.run(keep_going).refused(&line);
     let mut due = main;
     due[block * MAIN..][..MAIN].fill(0);
     assert!(folder.read("image") == due, "{line}");
@@ -219,7 +215,9 @@ fn two_refused_blocks() {
     let mut blocks = blocks_of(&main, 0x03_0000);
     blocks[0][frame_place(3, 5)] ^= 1;
     blocks[2][frame_place(8, FRAME_MAIN)] ^= 1;
-    blocks.iter_mut().for_each(|block| with_parity(block));
+    for block in &mut blocks {
+        with_parity(block);
+    }
     let stream = run_of_blocks(&blocks);
     let folder = Folder::with(&[("stream", &stream)]);
     let (first, second) = (

@@ -21,10 +21,10 @@ fn half_way(folder: &Folder, line: &str, input: &[u8]) -> (Child, ChildStdin) {
     (child, stdin)
 }
 
-/// The names of the outputs under way.
+/// The names of the outputs under way, which are hidden.
 fn parts(folder: &Folder) -> Vec<String> {
     let names = folder.names().into_iter();
-    names.filter(|name| name.ends_with(".part")).collect()
+    names.filter(|name| name.starts_with('.')).collect()
 }
 
 /// Interrupts the command when its outputs are under way.
@@ -33,9 +33,9 @@ fn interrupted(line: &str, outputs: &[&str], input: &[u8]) {
         for is_older in [false, true] {
             let folder = Folder::new();
             if is_older {
-                outputs
-                    .iter()
-                    .for_each(|output| folder.write(output, b"old"));
+                for output in outputs {
+                    folder.write(output, b"old");
+                }
             }
             let before = folder.names();
             let (child, stdin) = half_way(&folder, line, input);

@@ -102,9 +102,12 @@ impl Cells {
     fn classified(&self) -> Vec<Class> {
         let mut same_data = self.repaired.clone();
         with_parity(&mut same_data);
-        let is_wrong = |i: usize| match self.is_refused {
-            true => self.is_past_help(i / ROW, i % ROW),
-            false => self.repaired[i] != same_data[i],
+        let is_wrong = |i: usize| {
+            if self.is_refused {
+                self.is_past_help(i / ROW, i % ROW)
+            } else {
+                self.repaired[i] != same_data[i]
+            }
         };
         let class = |i: usize| match () {
             () if is_wrong(i) => Class::Wrong,

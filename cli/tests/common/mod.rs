@@ -7,7 +7,7 @@ pub mod damage;
 pub mod picture;
 pub mod streams;
 
-use std::fs;
+use std::fs::{self, OpenOptions};
 use std::io::Write;
 use std::os::unix::process::ExitStatusExt;
 use std::path::{Path, PathBuf};
@@ -113,6 +113,26 @@ impl Folder {
     /// The command with these bytes on its standard input.
     pub fn pipe(&self, line: &str, input: &[u8]) -> Ended {
         fed(&mut self.command(line), input, input.len().max(1))
+    }
+}
+
+/// A character device by its minor number, as /dev has it under this name, by which a test may write. It is one of the test's own in the folder: root could lose the
+/// machine's to a command that puts files in the place of devices. Where none can be made, /dev has to be closed to the test too; else there is none.
+pub fn device(folder: &Folder, name: &str, minor: &str) -> Option<String> {
+    let made = ended(&mut folder.program("mknod", &[name, "c", "1", minor]));
+    let is_usable = made.status == Some(0)
+        && OpenOptions::new()
+            .write(true)
+            .open(folder.path(name))
+            .is_ok();
+    let is_closed = folder.shell("test -w /dev").status == Some(1);
+    match (is_usable, is_closed) {
+        (true, _) => Some(name.to_string()),
+        (false, true) => Some(format!("/dev/{name}")),
+        (false, false) => {
+            println!("skipped: no device can be made here");
+            None
+        }
     }
 }
 
@@ -228,13 +248,11 @@ pub fn finished(child: Child) -> Ended {
     let id = child.id();
     let (sender, receiver) = mpsc::channel();
     thread::spawn(move || sender.send(child.wait_with_output()));
-    match receiver.recv_timeout(LONGEST) {
-        Ok(output) => Ended::new(output.unwrap()),
-        Err(_) => {
-            send_signal("KILL", id);
-            panic!("the command did not end");
-        }
-    }
+    let Ok(output) = receiver.recv_timeout(LONGEST) else {
+        send_signal("KILL", id);
+        panic!("the command did not end");
+    };
+    Ended::new(output.unwrap())
 }
 
 pub fn send_signal(name: &str, id: u32) {

@@ -51,7 +51,8 @@ pub fn image(seed: u64, length: usize) -> Vec<u8> {
 /// An image of whole sectors, filled up with zeros to whole blocks.
 pub fn zero_filled(image: &[u8]) -> Vec<u8> {
     let mut filled = image.to_vec();
-    filled.resize(image.len().div_ceil(MAIN) * MAIN, 0);
+    let blocks = image.chunks(MAIN).count();
+    filled.resize(blocks * MAIN, 0);
     filled
 }
 
