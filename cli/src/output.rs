@@ -146,11 +146,6 @@ impl Output {
         Self::written(&self.name, self.file.write_all(bytes))
     }
 
-    /// The first `length` bytes are all there is.
-    pub fn cut(&mut self, length: u64) -> Result<(), Failure> {
-        Self::written(&self.name, self.file.set_len(length))
-    }
-
     fn flush(&mut self) -> io::Result<()> {
         match &mut self.place {
             Place::Named { flushing, .. } => flushing.take().map_or(Ok(()), Flushing::end),

@@ -79,6 +79,8 @@ impl Summary {
 struct Outputs {
     image: Output,
     sheet: Option<Output>,
+    /// Bytes of the image that are still asked for, where a number was.
+    left: Option<u64>,
 }
 
 impl Outputs {
@@ -91,40 +93,43 @@ impl Outputs {
         Ok(Outputs {
             image: Output::create(&chosen.output)?,
             sheet,
+            left: chosen.length,
         })
     }
 
-    fn write(&mut self, read: &Answer) -> Result<(), Failure> {
+    /// The next bytes of the image, as far as they are asked for.
+    fn write_main(&mut self, main: &[u8]) -> Result<(), Failure> {
+        let Some(left) = &mut self.left else {
+            return self.image.write(main);
+        };
+        let taken = usize::try_from(*left).map_or(main.len(), |left| left.min(main.len()));
+        *left -= taken as u64;
+        self.image.write(&main[..taken])
+    }
+
+    fn write(&mut self, answer: &Answer) -> Result<(), Failure> {
         if let Some(sheet) = &mut self.sheet {
-            sheet.write(format!("{}\n", line(&read.read)).as_bytes())?;
+            sheet.write(format!("{}\n", line(&answer.read)).as_bytes())?;
         }
-        match &read.read {
-            Ok(BlockRead { main, .. }) => self.image.write(&main[..]),
-            Err(_) => self.image.write(&vec![0; MAIN]),
+        match &answer.read {
+            Ok(BlockRead { main, .. }) => self.write_main(&main[..]),
+            Err(_) => self.write_main(&vec![0; MAIN]),
         }
     }
 
-    /// Both are whole; the image is no longer than asked for.
-    fn finish(mut self, length: Option<u64>, blocks: u64) -> Result<(), Failure> {
-        let all = blocks * MAIN as u64;
-        if let Some(length) = length {
-            if length > all {
-                let words = format!("--length {length}, where {blocks} blocks have {all} bytes");
-                return Err(Refused {
-                    refusal: chamanzil::Refusal::Length,
-                    block: None,
-                    words: Some(words),
-                }
-                .into());
-            }
-            self.image.cut(length)?;
+    /// Both are whole, unless more was asked for than there is.
+    fn finish(self, length: Option<u64>, blocks: u64) -> Result<(), Failure> {
+        if let (Some(length), Some(1..)) = (length, self.left) {
+            let all = blocks * MAIN as u64;
+            let words = format!("--length {length}, where {blocks} blocks have {all} bytes");
+            return Err(Failure::Refused(Refused {
+                refusal: chamanzil::Refusal::Length,
+                block: None,
+                words: Some(words),
+            }));
         }
-        output::finish(
-            [Some(self.image), self.sheet]
-                .into_iter()
-                .flatten()
-                .collect(),
-        )
+        let outputs = [Some(self.image), self.sheet];
+        output::finish(outputs.into_iter().flatten().collect())
     }
 }
 
