@@ -21,12 +21,7 @@ struct Made {
 
 /// The first number of a block of the run. What is past 32 bits is past every number that the maker takes.
 fn number(first: u32, block: u64) -> u32 {
-    let number = block
-        .checked_mul(16)
-        .and_then(|n| n.checked_add(u64::from(first)));
-    number
-        .and_then(|n| u32::try_from(n).ok())
-        .unwrap_or(u32::MAX)
+    u32::try_from(u64::from(first) + 16 * block).unwrap_or(u32::MAX)
 }
 
 /// Sectors that are whole are filled up to a block. Others go to the maker as they are, which refuses them.
