@@ -110,6 +110,10 @@ fn a_small_disk() {
         ended.failed(&format!("cannot write {name}: "));
         assert_eq!(folder.read("left"), b"old\n", "{line}");
     }
+    // of an image that is too long as much as is asked for has room
+    let line = "recover stream -o disk/old --length 40000";
+    on_a_small_disk(&folder, line).unwrap().done();
+    assert_eq!(folder.read("left"), b"old\n");
     // a stream of one block has room
     folder.write("small", &image(51, MAIN));
     let line = "format small -o disk/old --first 030000";
