@@ -24,12 +24,20 @@ pub struct Refused {
     pub words: Option<String>,
 }
 
+/// A number of bytes, in words.
+pub fn bytes(count: usize) -> String {
+    match count {
+        1 => "1 byte".to_owned(),
+        more => format!("{more} bytes"),
+    }
+}
+
 impl Refused {
-    /// A block's; `left` are the bytes of the stream that there were for it.
-    pub fn in_stream(refusal: Refusal, block: u64, left: usize) -> Self {
+    /// A block's; `length` are the bytes of the stream that there were for it.
+    pub fn in_stream(refusal: Refusal, block: u64, length: usize) -> Self {
         let words = (refusal == Refusal::Length).then(|| {
-            let due = chamanzil::STREAM;
-            format!("{left} bytes of the stream are left, where a block has {due}")
+            let (has, due) = (bytes(length), chamanzil::STREAM);
+            format!("the stream has {has} for this block, where {due} are due")
         });
         Refused {
             refusal,

@@ -4,7 +4,7 @@ use chamanzil::{
 };
 
 use crate::arguments::Format;
-use crate::failure::{Failure, Refused};
+use crate::failure::{bytes, Failure, Refused};
 use crate::input::Input;
 use crate::output::{self, Output};
 use crate::pieces::{in_order, of_image, Piece};
@@ -53,10 +53,10 @@ fn make(first: u32, info: u8, piece: Piece) -> Made {
 
 impl Made {
     fn refused(&self, refusal: Refusal) -> Refused {
-        let left = self.bytes;
         let words = (refusal == Refusal::Length).then(|| {
+            let has = bytes(self.bytes);
             format!(
-                "{left} bytes of the image are left, no whole number of sectors of {SECTOR_MAIN}"
+                "the image has {has} for this block, no whole number of sectors of {SECTOR_MAIN}"
             )
         });
         Refused {
@@ -81,7 +81,7 @@ pub fn run(chosen: &Format) -> Result<Ending, Failure> {
     let progress = Progress::over(image.length);
     let mut record = Record::new();
     let mut stream = vec![0; BLOCK_STREAM];
-    let (mut blocks, mut bytes) = (0_usize, 0);
+    let (mut blocks, mut taken) = (0_usize, 0);
 
     in_order(
         of_image(image),
@@ -90,7 +90,7 @@ pub fn run(chosen: &Format) -> Result<Ending, Failure> {
             made.write(&mut record, &mut stream)
                 .map_err(|refusal| made.refused(refusal))?;
             blocks += 1;
-            bytes += made.bytes;
+            taken += made.bytes;
             progress.passed(made.bytes);
             output.write(&stream)
         },
@@ -105,7 +105,7 @@ pub fn run(chosen: &Format) -> Result<Ending, Failure> {
     output::finish(vec![output])?;
     drop(progress);
 
-    match (blocks * MAIN - bytes) / SECTOR_MAIN {
+    match (blocks * MAIN - taken) / SECTOR_MAIN {
         0 => {}
         1 => say("filled up with 1 zero sector"),
         more => say(format!("filled up with {more} zero sectors")),

@@ -185,16 +185,18 @@ fn standard_output() -> io::Result<File> {
     Ok(File::from(io::stdout().as_fd().try_clone_to_owned()?))
 }
 
-/// A file without a name in the folder for temporary files.
+/// A file without a name in the folder for temporary files. It has one for a moment, in which a signal may come.
 fn handed(to: File) -> io::Result<(File, Place)> {
     let path = std::env::temp_dir().join(format!("chamanzil.{}.{:p}", process::id(), &to));
-    let file = OpenOptions::new()
+    signals::watch_part(&path);
+    let created = OpenOptions::new()
         .read(true)
         .write(true)
         .create_new(true)
-        .open(&path)?;
-    fs::remove_file(&path)?;
-    Ok((file, Place::Handed { to }))
+        .open(&path);
+    let unnamed = created.and_then(|file| fs::remove_file(&path).map(|()| file));
+    signals::settle_part(&path, || ());
+    Ok((unnamed?, Place::Handed { to }))
 }
 
 /// The file that becomes `path`, in the same folder. A link is followed; a device or a pipe stays what it is.

@@ -121,7 +121,7 @@ impl Outputs {
     fn finish(self, length: Option<u64>, blocks: u64) -> Result<(), Failure> {
         if let (Some(length), Some(1..)) = (length, self.left) {
             let all = blocks * MAIN as u64;
-            let words = format!("--length {length}, where {blocks} blocks have {all} bytes");
+            let words = format!("--length {length}, where the blocks have {all} bytes");
             return Err(Failure::Refused(Refused {
                 refusal: chamanzil::Refusal::Length,
                 block: None,

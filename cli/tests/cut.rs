@@ -9,8 +9,9 @@ const BLOCKS: usize = 3;
 const RUN: usize = BLOCKS * BLOCK_STREAM + CLOSING;
 
 /// A length of stream, the block that is refused there, and how many bytes are left for it.
-const CUTS: [(usize, usize, usize); 9] = [
+const CUTS: [(usize, usize, usize); 10] = [
     (0, 0, 0),
+    (1, 0, 1),
     (3, 0, 3),
     (4, 0, 4),
     (BLOCK_STREAM, 0, BLOCK_STREAM),
@@ -28,9 +29,8 @@ fn stream_of_length(length: usize) -> Vec<u8> {
 }
 
 fn line_of(block: usize, left: usize) -> String {
-    format!(
-        "refused 1: {left} bytes of the stream are left, where a block has 77380 (block {block})"
-    )
+    let bytes = if left == 1 { "byte" } else { "bytes" };
+    format!("refused 1: the stream has {left} {bytes} for this block, where 77380 are due (block {block})")
 }
 
 #[test]

@@ -61,11 +61,11 @@ fn no_byte() {
 fn one_byte_and_one_less_than_a_sector() {
     refused_by_format(
         1,
-        "refused 1: 1 bytes of the image are left, no whole number of sectors of 2048 (block 0)",
+        "refused 1: the image has 1 byte for this block, no whole number of sectors of 2048 (block 0)",
     );
     refused_by_format(
         2_047,
-        "refused 1: 2047 bytes of the image are left, no whole number of sectors of 2048 (block 0)",
+        "refused 1: the image has 2047 bytes for this block, no whole number of sectors of 2048 (block 0)",
     );
 }
 
@@ -73,11 +73,11 @@ fn one_byte_and_one_less_than_a_sector() {
 fn one_byte_less_and_one_more_than_a_block() {
     refused_by_format(
         32_767,
-        "refused 1: 32767 bytes of the image are left, no whole number of sectors of 2048 (block 0)",
+        "refused 1: the image has 32767 bytes for this block, no whole number of sectors of 2048 (block 0)",
     );
     refused_by_format(
         32_769,
-        "refused 1: 1 bytes of the image are left, no whole number of sectors of 2048 (block 1)",
+        "refused 1: the image has 1 byte for this block, no whole number of sectors of 2048 (block 1)",
     );
 }
 

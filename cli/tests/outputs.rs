@@ -23,7 +23,7 @@ fn folder_of_one_block() -> Folder {
 
 const FILES: [&str; 3] = ["cut", "image", "stream"];
 const CUT: &str =
-    "refused 1: 77379 bytes of the stream are left, where a block has 77380 (block 0)";
+    "refused 1: the stream has 77379 bytes for this block, where 77380 are due (block 0)";
 
 /// Each command with an output, up to that output's name.
 const TO: [&str; 4] = [

@@ -105,6 +105,18 @@ fn title_and_counts() {
     }
 }
 
+/// What is said of an unknown word. Where the block is refused nobody knows that a byte was put right.
+fn due_of_unknown(cells: &Cells, i: usize) -> &'static str {
+    match (cells.is_by_column(i), cells.is_by_row(i), cells.is_refused) {
+        (true, _, false) => "put right by its column",
+        (false, true, false) => "put right by its row",
+        (false, false, false) => "its byte is 0",
+        (true, _, true) => "by its column",
+        (false, true, true) => "by its row",
+        (false, false, true) => "taken for 0",
+    }
+}
+
 /// What stands under the pointer at a cell, up to what is said of a byte that is wrong still.
 fn due_under(cells: &Cells, i: usize) -> String {
     let (row, place, byte, word) = (i / ROW, i % ROW, cells.repaired[i], cells.words[i]);
@@ -113,9 +125,7 @@ fn due_under(cells: &Cells, i: usize) -> String {
         Class::Right => "right".to_string(),
         Class::Row => format!("by its row {}", read_as()),
         Class::Column => format!("by its column {}", read_as()),
-        Class::Unknown if cells.is_by_column(i) => "unknown (put right by its column)".to_string(),
-        Class::Unknown if cells.is_by_row(i) => "unknown (put right by its row)".to_string(),
-        Class::Unknown => "unknown (its byte is 0)".to_string(),
+        Class::Unknown => format!("unknown ({})", due_of_unknown(cells, i)),
         Class::Wrong => "wrong still".to_string(),
     };
     format!("row {row}, place {place}: byte {byte:02X}, Code Word {word:016b}, {said}")

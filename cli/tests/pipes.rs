@@ -126,7 +126,8 @@ fn standard_streams_by_their_names() {
     let ended = folder.pipe(LINE, &stream).done();
     assert!(ended.out == image);
     // of a cut stream the first block could be handed out, and is not
-    let line = "refused 1: 22624 bytes of the stream are left, where a block has 77380 (block 1)";
+    let line =
+        "refused 1: the stream has 22624 bytes for this block, where 77380 are due (block 1)";
     folder.pipe(LINE, &stream[..100_000]).refused(line);
 }
 

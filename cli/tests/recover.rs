@@ -200,7 +200,7 @@ fn lengths_at_the_edges_of_blocks() {
 fn a_length_that_is_too_long() {
     let folder = Folder::with(&[("stream", &vector("run.stream")), ("old", b"old")]);
     for length in ["98305", "99999", "18446744073709551615"] {
-        let line = format!("refused 1: --length {length}, where 3 blocks have 98304 bytes");
+        let line = format!("refused 1: --length {length}, where the blocks have 98304 bytes");
         for output in ["image", "old", "-"] {
             folder
                 .run(&format!("recover stream -o {output} --length {length}"))

@@ -6,25 +6,35 @@ use super::picture::{CELL, HEIGHT, LEFT, TOP, WIDTH};
 
 const PAGE: &str = include_str!("page.html");
 
-/// What became of a byte: its letter in the page, and the words for it; READ stands for the byte as read.
-fn fate(byte: Byte) -> (char, &'static str) {
+/// What became of a byte: its letter in the page, and the words for it; READ stands for the byte as read. Where the block is refused nobody knows what is right.
+fn fate(byte: Byte, is_refused: bool) -> (char, &'static str) {
+    let by_column = byte.after != byte.after_rows;
     match (byte.class, byte.read) {
         (Class::Right, _) => ('r', "right"),
         (Class::Row, _) => ('h', "by its row (read as READ)"),
         (Class::Column, _) => ('v', "by its column (read as READ)"),
         (Class::Wrong, Some(_)) => ('w', "wrong still"),
         (Class::Wrong, None) => ('x', "wrong still (unknown)"),
-        (Class::Unknown, _) if byte.after != byte.after_rows => {
-            ('c', "unknown (put right by its column)")
-        }
-        (Class::Unknown, _) if byte.after != 0 => ('u', "unknown (put right by its row)"),
-        (Class::Unknown, _) => ('z', "unknown (its byte is 0)"),
+        (Class::Unknown, _) => match (by_column, byte.after != 0, is_refused) {
+            (true, _, false) => ('c', "unknown (put right by its column)"),
+            (false, true, false) => ('u', "unknown (put right by its row)"),
+            (false, false, false) => ('z', "unknown (its byte is 0)"),
+            (true, _, true) => ('c', "unknown (by its column)"),
+            (false, true, true) => ('u', "unknown (by its row)"),
+            (false, false, true) => ('z', "unknown (taken for 0)"),
+        },
     }
+}
+
+fn fates(damage: &Damage) -> impl Iterator<Item = (char, &'static str)> + '_ {
+    let is_refused = damage.refusal.is_some();
+    let bytes = damage.bytes.iter().copied();
+    bytes.map(move |byte| fate(byte, is_refused))
 }
 
 /// The letters that occur, with their words, as the page's script takes them.
 fn told(damage: &Damage) -> String {
-    let mut fates: Vec<_> = damage.bytes.iter().copied().map(fate).collect();
+    let mut fates: Vec<_> = fates(damage).collect();
     fates.sort_unstable();
     fates.dedup();
     let entries: Vec<_> = fates
@@ -52,7 +62,7 @@ fn hexadecimal(damage: &Damage, digits: usize, of: fn(&Byte) -> u16) -> String {
 
 /// The page of a picture that is a PNG.
 pub fn page(title: &str, damage: &Damage, picture: &[u8]) -> String {
-    let fates: String = damage.bytes.iter().map(|byte| fate(*byte).0).collect();
+    let fates: String = fates(damage).map(|(letter, _)| letter).collect();
     let parts = [
         ("width", WIDTH.to_string()),
         ("height", HEIGHT.to_string()),

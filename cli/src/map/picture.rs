@@ -38,9 +38,10 @@ impl Class {
         }
     }
 
-    fn legend(self) -> &'static str {
+    fn legend(self, is_refused: bool) -> &'static str {
         match self {
             Class::Right => "read right",
+            Class::Unknown if is_refused => "unknown",
             Class::Unknown => "unknown, and put right",
             Class::Row => "corrected by its row",
             Class::Column => "corrected by its column",
@@ -104,7 +105,14 @@ impl Canvas {
 
     fn legend(&mut self, damage: &Damage) {
         let count = |all: &[bool]| all.iter().filter(|past| **past).count();
-        let classes = CLASSES.map(|class| (class.colour(), damage.count(class), class.legend()));
+        let is_refused = damage.refusal.is_some();
+        let classes = CLASSES.map(|class| {
+            (
+                class.colour(),
+                damage.count(class),
+                class.legend(is_refused),
+            )
+        });
         let rows = (
             PAST_HELP,
             count(&damage.rows_past_help),
