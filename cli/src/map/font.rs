@@ -62,3 +62,46 @@ pub fn dots(text: &str) -> impl Iterator<Item = (usize, (usize, usize))> + '_ {
         set.map(move |place| (k, place))
     })
 }
+
+#[cfg(test)]
+pub mod tests {
+    use super::*;
+
+    /// The letters that have a form of their own.
+    pub fn letters() -> impl Iterator<Item = char> {
+        let known = |letter: &char| columns(*letter) != columns('\0');
+        (' '..='~').filter(known)
+    }
+
+    /// The letter with these columns.
+    pub fn letter_of(form: [u8; 5]) -> Option<char> {
+        letters().find(|letter| columns(*letter) == form)
+    }
+
+    #[test]
+    fn no_two_letters_look_alike() {
+        assert!(letters().count() > 40);
+        for letter in letters() {
+            assert_eq!(letter_of(columns(letter)), Some(letter));
+        }
+    }
+
+    #[test]
+    fn a_letter_by_its_dots() {
+        // the one: a hook at the left, a stem, a foot
+        let due = [
+            (1, 1),
+            (1, 6),
+            (2, 0),
+            (2, 1),
+            (2, 2),
+            (2, 3),
+            (2, 4),
+            (2, 5),
+            (2, 6),
+            (3, 6),
+        ];
+        let found: Vec<_> = dots("1").map(|(_, place)| place).collect();
+        assert_eq!(found, due);
+    }
+}

@@ -157,3 +157,83 @@ fn encode(pixels: &[u8]) -> Result<Vec<u8>, png::EncodingError> {
     writer.finish()?;
     Ok(out)
 }
+
+#[cfg(test)]
+mod tests {
+    use super::*;
+    use chamanzil::{format_block, MAIN, STREAM};
+
+    fn canvas_of(damage: &Damage) -> Canvas {
+        let mut canvas = Canvas {
+            pixels: WHITE.repeat(WIDTH * HEIGHT),
+        };
+        canvas.legend(damage);
+        canvas
+    }
+
+    /// The text that stands in the picture from a place on, read letter by letter as an eye would.
+    fn text_at(canvas: &Canvas, x: usize, y: usize, scale: usize) -> String {
+        let inked = |x: usize, y: usize| canvas.pixels[3 * (WIDTH * y + x)..][..3] == INK;
+        let letter = |k: usize| {
+            let at = x + scale * font::ADVANCE * k;
+            font::tests::letter_of(std::array::from_fn(|column| {
+                (0..8).fold(0, |dots, row| {
+                    dots | u8::from(inked(at + scale * column, y + scale * row)) << row
+                })
+            }))
+        };
+        let room = (WIDTH - x) / (scale * font::ADVANCE);
+        let text: String = (0..room).map(|k| letter(k).expect("a letter")).collect();
+        text.trim_end().to_owned()
+    }
+
+    /// What stands below the bytes: each class with its colour and count, rows and columns past help, and the sheet's line.
+    fn reads(stream: &[u8; STREAM], due: [&str; 8]) {
+        let damage = Damage::of(stream);
+        let canvas = canvas_of(&damage);
+        for (k, line) in due[..7].iter().enumerate() {
+            assert_eq!(text_at(&canvas, LEFT + 22, LEGEND + LINE * k, 2), *line);
+        }
+        assert_eq!(text_at(&canvas, LEFT, LEGEND + LINE * 7, 2), due[7]);
+        for (k, class) in CLASSES.into_iter().enumerate() {
+            let at = 3 * (WIDTH * (LEGEND + LINE * k) + LEFT);
+            assert_eq!(canvas.pixels[at..][..3], class.colour());
+        }
+    }
+
+    #[test]
+    fn the_legend_of_a_block_that_is_read() {
+        let mut stream = format_block(&[7; MAIN], 0x03_0000, 0).unwrap();
+        stream[14..16].fill(0xFF);
+        reads(
+            &stream,
+            [
+                "37855 read right",
+                "1 unknown, and put right",
+                "0 corrected by its row",
+                "0 corrected by its column",
+                "0 wrong still",
+                "0 rows past help, at the right",
+                "0 columns past help, below",
+                "block 030000 rows 1 0 columns 0 0 unknown 1 sync 0",
+            ],
+        );
+    }
+
+    #[test]
+    fn the_legend_of_a_block_that_is_refused() {
+        reads(
+            &[0; STREAM],
+            [
+                "0 read right",
+                "37856 unknown",
+                "0 corrected by its row",
+                "0 corrected by its column",
+                "0 wrong still",
+                "0 rows past help, at the right",
+                "0 columns past help, below",
+                "refused 6 frame 0",
+            ],
+        );
+    }
+}
