@@ -102,7 +102,9 @@ fn lemmas_are_cited(report: &mut Report) {
     let mut files_with: HashMap<&str, HashSet<usize>> = HashMap::new();
     for (number, source) in all.iter().enumerate() {
         for line in source.text.lines() {
-            names(without_comment(line)).for_each(|word| drop(files_with.entry(word).or_default().insert(number)));
+            for word in names(without_comment(line)) {
+                files_with.entry(word).or_default().insert(number);
+            }
         }
     }
     for (number, source) in all.iter().enumerate() {
