@@ -99,7 +99,7 @@ fn the_help_names_each_command() {
     }
 }
 
-/// Each option of INTERFACE stands in the help of its command.
+/// Each option stands in the help of its command.
 #[test]
 fn the_help_names_each_option() {
     for (command, options) in [
