@@ -4,8 +4,8 @@ mod common;
 use chamanzil::MAIN;
 use common::streams::{image, run_of};
 use common::{device, Folder};
-use std::fs;
-use std::os::unix::fs::{symlink, FileTypeExt, MetadataExt};
+use std::fs::{self, Permissions};
+use std::os::unix::fs::{symlink, FileTypeExt, MetadataExt, PermissionsExt};
 use std::path::Path;
 
 const OLD: &[u8] = b"an older file";
@@ -215,7 +215,8 @@ fn a_symbolic_link() {
     assert_eq!(fs::read(&target).unwrap(), OLD);
 
     folder.run("recover stream -o link").done();
-    assert!(folder.read("link") == folder.read("image"));
+    assert_eq!(fs::read_link(folder.path("link")).unwrap(), target);
+    assert!(fs::read(&target).unwrap() == folder.read("image"));
     assert_eq!(fs::read_dir(folder.path("elsewhere")).unwrap().count(), 1);
     assert_eq!(
         folder.names(),
@@ -240,6 +241,20 @@ fn permissions_are_those_of_the_umask() {
             assert_eq!(mode, due, "{line} with umask {umask}: {mode:o}");
             fs::remove_file(folder.path("out")).unwrap();
         }
+    }
+}
+
+/// An output that is replaced is as open to others as it was.
+#[test]
+fn a_replaced_output_keeps_its_permissions() {
+    let folder = folder_of_one_block();
+    for due in [0o600, 0o640, 0o664] {
+        folder.write("out", OLD);
+        fs::set_permissions(folder.path("out"), Permissions::from_mode(due)).unwrap();
+        folder.run("recover stream -o out").done();
+        assert!(folder.read("out") == folder.read("image"));
+        let mode = fs::metadata(folder.path("out")).unwrap().mode() & 0o777;
+        assert_eq!(mode, due, "{mode:o}");
     }
 }
 
