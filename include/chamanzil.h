@@ -127,7 +127,8 @@ uint32_t chamanzil_write_sector(struct chamanzil_record *kept, const uint8_t *by
  * record after them. After a refusal both are as they were. */
 uint32_t chamanzil_write_block(struct chamanzil_record *kept, bool follows, uint32_t previous, const uint8_t *main, size_t main_len, uint32_t first, uint8_t info, uint8_t *out, size_t out_len);
 
-/* The closing code after the last block of a run. `out` has CHAMANZIL_CLOSING bytes. 0, 1, 9, 7 or 8, with `out` and `kept` as above. */
+/* The closing code after the last block of a run: SY0 of the class that the State prescribes, Primary or Secondary, whichever leaves the lower absolute DSV after
+ * its 32 bits; the Primary where both leave the same. `out` has CHAMANZIL_CLOSING bytes. 0, 1, 9, 7 or 8, with `out` and `kept` as above. */
 uint32_t chamanzil_close(struct chamanzil_record *kept, uint8_t *out, size_t out_len);
 
 /* ---- from a stream back to main data */

@@ -80,6 +80,26 @@ static void write_run(uint32_t first)
     expect(chamanzil_closing_holds(run + 1, CHAMANZIL_CLOSING) == 0, "four bytes that are no closing code");
 }
 
+/* The closing code and the record after it, from a record with whole blocks. */
+static void close_from(uint8_t state, int64_t dsv, uint8_t first, uint8_t second, int64_t after)
+{
+    struct chamanzil_record kept = {0, 0, 0, 16, false};
+    uint8_t code[CHAMANZIL_CLOSING] = {0, 0, 0, 0};
+    kept.state = state;
+    kept.dsv = dsv;
+    expect(chamanzil_close(&kept, code, sizeof code) == CHAMANZIL_DONE && kept.dsv == after, "the DSV after closing");
+    expect(code[0] == first && code[1] == second && code[2] == 0x00 && code[3] == 0x11, "the closing code by the DSV");
+}
+
+/* Of SY0's two codes the one that leaves the lower absolute DSV; the Primary where both leave the same, 7 to either side. */
+static void close_by_dsv(void)
+{
+    close_from(1, 2, 0x12, 0x04, 6);
+    close_from(2, 3, 0x12, 0x44, -7);
+    close_from(3, -4, 0x92, 0x44, 6);
+    close_from(4, -3, 0x92, 0x04, -7);
+}
+
 /* Each block of the run from its sectors and the four bytes after them, where the second one's code or the closing code stands. */
 static void read_run(uint32_t first)
 {
@@ -121,6 +141,7 @@ int main(void)
     expect(report[0] == 0x030000, "the first number");
 
     be_refused();
+    close_by_dsv();
     write_run(0x02FFF0);
     read_run(0x02FFF0);
     printf("block %06lX rows %lu %lu columns %lu %lu unknown %lu sync %lu: main data read back; a run of two blocks too\n", (unsigned long)report[0],

@@ -3,7 +3,7 @@ mod common;
 
 use chamanzil::{Writer, BLOCK_STREAM, CLOSING, MAIN};
 use common::streams::{image, run_of, zero_filled, IMAGE_SECTOR};
-use common::{finished, until, Folder};
+use common::{finished, in_repository, until, Folder};
 use std::fs::{self, File};
 use std::io::{BufReader, BufWriter, Read, Write};
 use std::process::Stdio;
@@ -33,6 +33,24 @@ fn there_and_back(image: &[u8], said: &[&str]) {
     folder.run("recover stream -o whole").done();
     assert!(folder.read("whole") == zero_filled(image));
     assert_eq!(folder.names(), ["back", "image", "stream", "whole"]);
+}
+
+/// Images of one block and of three, to the streams that the second formatter made of them: two are closed by the Secondary code, two by the Primary.
+#[test]
+fn streams_of_the_second_formatter() {
+    let vectors = [
+        ("crates/trials/data/b1", "030000", "00"),
+        ("crates/trials/data/b2", "000000", "2D"),
+        ("crates/trials/data/z", "030000", "00"),
+        ("tests/data/vectors/run/run", "02FFE0", "25"),
+    ];
+    for (name, first, info) in vectors {
+        let vector = |kind: &str| fs::read(in_repository(&format!("{name}.{kind}"))).unwrap();
+        let folder = Folder::with(&[("image", &vector("main"))]);
+        let line = format!("format image -o stream --first {first} --info {info}");
+        folder.run(&line).done();
+        assert!(folder.read("stream") == vector("stream"), "{name}");
+    }
 }
 
 #[track_caller]

@@ -122,7 +122,8 @@ pub fn write_block(
     answer(number, 0)
 }
 
-/// The closing code after the last block of a run, 4 bytes. `record` becomes the next one.
+/// The closing code after the last block of a run, 4 bytes: the SY0 that leaves the lower absolute DSV, as [`Writer::close`](crate::Writer::close) has it. `record`
+/// becomes the next one.
 ///
 /// # Errors
 /// 1, 9, 7 or 8, with `record` and `out` as they were.

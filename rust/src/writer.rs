@@ -173,14 +173,21 @@ impl Writer {
         })
     }
 
-    /// The closing code after the last block of the run.
+    /// The closing code after the last block of the run: SY0 of the class that the State prescribes, Primary or Secondary, whichever leaves the lower
+    /// absolute DSV after its 32 bits; the Primary where both leave the same.
     ///
     /// ```
-    /// use chamanzil::{Refusal, Writer, BLOCK_STREAM, CLOSING, MAIN};
+    /// use chamanzil::{Record, Refusal, Writer, BLOCK_STREAM, CLOSING, MAIN};
     /// let mut out = [0; CLOSING];
     /// assert_eq!(Writer::new().close(&mut out), Err(Refusal::RunUnfinished));
     /// let writer = Writer::new().write_block(&[0; MAIN], 0, 0, &mut [0; BLOCK_STREAM])?;
     /// assert!(writer.close(&mut out)?.record().closed);
+    /// // from level ZERO the Primary takes 10 off the DSV, the Secondary adds 4: they tip at 3
+    /// for (dsv, second_byte, after) in [(2, 0x04, 6), (3, 0x44, -7), (4, 0x44, -6)] {
+    ///     let writer = Writer::from_record(Record { dsv, sectors: 16, ..Record::new() }, None);
+    ///     assert_eq!(writer.close(&mut out)?.record().dsv, after);
+    ///     assert_eq!(out, [0x12, second_byte, 0x00, 0x11]);
+    /// }
     /// # Ok::<(), Refusal>(())
     /// ```
     ///

@@ -71,6 +71,37 @@ fn sheets() {
     assert!(lines > 5);
 }
 
+/// Closing codes around the point where the choice tips, from every State at both levels.
+#[test]
+fn closings() {
+    let list = fs::read_to_string(path("tests/data/vectors/closing.tsv")).unwrap();
+    for line in list.lines().skip(1) {
+        let words: Vec<&str> = line.split('\t').collect();
+        let number = |i: usize| words[i].parse::<i64>().unwrap();
+        let level = |i: usize| number(i).try_into().unwrap();
+        let open = Record {
+            state: number(1).try_into().unwrap(),
+            level: level(2),
+            dsv: number(3),
+            sectors: 16,
+            closed: false,
+        };
+        let mut out = [0; CLOSING];
+        let writer = Writer::from_record(open, None).close(&mut out).unwrap();
+        let code = u32::from_str_radix(words[6], 16).unwrap();
+        assert_eq!(u32::from_be_bytes(out), code, "{line}");
+        let closed = Record {
+            state: 1,
+            level: level(7),
+            dsv: number(8),
+            sectors: 16,
+            closed: true,
+        };
+        assert_eq!(writer.record(), closed, "{line}");
+    }
+    assert_eq!(list.lines().count(), 28);
+}
+
 /// A run of three blocks.
 const RUN: [u32; 3] = [0x02_FFE0, 0x02_FFF0, 0x03_0000];
 const RUN_INFORMATION: u8 = 0x25;
@@ -106,7 +137,7 @@ fn run_records() -> Vec<Record> {
     list.lines().map(record).collect()
 }
 
-/// The run block by block: stream, closing code (Primary, which the DSV chooses here too) and the record after each call.
+/// The run block by block: stream, closing code and the record after each call.
 #[test]
 fn run_by_blocks() {
     let (records, due) = (run_records(), run("run.stream"));

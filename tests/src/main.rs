@@ -41,6 +41,7 @@ fn round(report: &mut Report, seed: u64) {
     writer_test::blocks(report, &mut random, &tables, 200);
     writer_test::sectors(report, &mut random, &tables, 2_000);
     writer_test::edges(report, &mut random, &tables);
+    writer_test::closings(report, &tables);
     writer_test::ends(report, &mut random, &tables);
     writer_test::refusals(report, &mut random, &tables, 20_000);
     readers_test::all(report, &mut random, &tables, &reader);

@@ -3,9 +3,9 @@ use crate::block::{block, BLOCK, MAIN};
 use crate::damage::heavy_rows;
 use crate::reading::{sheet, zero_runs_hold, Answer, Reader};
 use crate::report::Report;
-use crate::run::{blocks_of, part, Input, BLOCK_LAID};
+use crate::run::{blocks_of, part, Input};
 use crate::tables::Tables;
-use crate::writing::{permitted_stream, write_run, write_sector, Follow, FrameTrace, Record};
+use crate::writing::{close, permitted_stream, write_run, write_sector, Follow, FrameTrace, Record};
 use std::path::Path;
 
 pub const BLOCKS: [(&str, u32, u8); 3] = [("b1", 0x030000, 0), ("b2", 0, 0x2D), ("z", 0x030000, 0)];
@@ -142,7 +142,35 @@ fn record_line(r: &Record) -> String {
     format!("record {} {} {} {} {}", r.state, r.level, r.dsv, r.sectors, r.closed as u8)
 }
 
-/// The run's blocks, its stream and its records. The closing code was chosen by DSV (request 7), which here is Primary, as it always is until then.
+/// The closing code from the records of the vectors: the stored blocks' own first, then those around the point where the choice tips.
+fn closings(report: &mut Report, t: &Tables) {
+    report.begin("vectors: closing codes by DSV");
+    let list = text("closing.tsv");
+    for line in list.lines().skip(1) {
+        let w: Vec<&str> = line.split('\t').collect();
+        let n = |i: usize| w[i].parse::<i64>().unwrap();
+        let mut record = Record {
+            state: n(1) as u8,
+            level: n(2) as u8,
+            dsv: n(3),
+            sectors: 16,
+            closed: false,
+        };
+        let closing = close(t, &mut record);
+        report.check(closing.dsvs == [n(4), n(5)], || format!("{line}: {:?}", closing.dsvs));
+        report.check(closing.code == u32::from_str_radix(w[6], 16).unwrap().to_be_bytes(), || format!("{line}: {:02X?}", closing.code));
+        let due = Record { state: 1, level: n(7) as u8, dsv: n(8), sectors: 16, closed: true };
+        report.check(record == due, || format!("{line}: {record:?}"));
+        if w[0] != "-" {
+            let stream = load(&format!("{}.stream", w[0]));
+            report.check(stream.ends_with(&closing.code), || format!("{line}: the stored stream ends otherwise"));
+        }
+    }
+    report.check(list.lines().count() == 28, || "27 records".into());
+    report.end();
+}
+
+/// The run's blocks, its stream and its records.
 fn run_written(report: &mut Report, t: &Tables) {
     report.begin("vectors: the run, written");
     let blocks = blocks_of(&run_inputs());
@@ -164,21 +192,14 @@ fn run_written(report: &mut Report, t: &Tables) {
     report.end();
 }
 
-/// Both streams of the run are permitted, seams included; the closing code of `run.rstream` is the Secondary one, which only request 7 permits.
+/// Both streams of the run are permitted, seams and closing codes included: that of `run.stream` is the Primary, that of `run.rstream` the Secondary.
 fn run_permitted(report: &mut Report, t: &Tables) {
     report.begin("vectors: the run, permitted");
     let blocks = blocks_of(&run_inputs());
     for name in ["run.stream", "run.rstream"] {
         let stream = load(&format!("run/{name}"));
         let again = permitted_stream(t, &blocks, &mut Follow { stream: &stream, at: 0 });
-        let sectors = again.as_ref().map(|a| &a[..3 * BLOCK_LAID]);
-        report.check(sectors == Some(&stream[..3 * BLOCK_LAID]), || format!("{name} is not permitted"));
-        let closing = |s: &[u8]| u16::from_be_bytes([s[3 * BLOCK_LAID], s[3 * BLOCK_LAID + 1]]);
-        let is_closed = |a: &Vec<u8>| {
-            let class = t.sync.iter().find(|class| class[0][0] == closing(a)).unwrap();
-            class[0].contains(&closing(&stream)) && stream.ends_with(&a[3 * BLOCK_LAID + 2..])
-        };
-        report.check(again.is_some_and(|a| is_closed(&a)), || format!("{name} is not closed by an SY0 of its class"));
+        report.check(again.as_ref() == Some(&stream), || format!("{name} is not permitted"));
         report.check(zero_runs_hold(&stream), || format!("zero runs of {name}"));
     }
     report.end();
@@ -212,6 +233,7 @@ pub fn all(report: &mut Report) {
     far_out(report, &t);
     trial14(report, &t);
     damaged(report, &reader);
+    closings(report, &t);
     run_written(report, &t);
     run_permitted(report, &t);
     run_read(report, &reader);

@@ -4,8 +4,9 @@ use crate::blocks_test::accepted;
 use crate::library;
 use crate::random::Random;
 use crate::report::Report;
-use crate::tables::Tables;
-use crate::writing::{close, write_sector, FrameTrace, Record, LAID, RUN_SECTORS, SECTOR};
+use crate::tables::{Tables, SYNC_END};
+use crate::writing::{close, write_sector, Closing, FrameTrace, Record, LAID, RUN_SECTORS, SECTOR};
+use std::collections::BTreeMap;
 
 /// One sector from a record, by both; what the second implementation did.
 fn compare_sector(report: &mut Report, t: &Tables, record: Record, bytes: &[u8]) -> (Record, Vec<FrameTrace>) {
@@ -36,12 +37,34 @@ pub fn blocks(report: &mut Report, random: &mut Random, t: &Tables, count: usize
 }
 
 /// The closing code after a record, by both.
-fn compare_closing(report: &mut Report, t: &Tables, record: Record) {
+fn compare_closing(report: &mut Report, t: &Tables, record: Record) -> Closing {
     let (mut ours, mut theirs) = (record, record);
     let mut out = [0xA5; 4];
     let answer = library::close(&mut ours, &mut out);
-    let stream = close(t, &mut theirs);
-    report.check(answer == 0 && ours == theirs && out[..] == stream, || format!("closing {record:?}: {answer}"));
+    let closing = close(t, &mut theirs);
+    report.check(answer == 0 && ours == theirs && out[..] == closing.code, || {
+        format!("closing {record:?}: {answer}, {out:02X?}, {ours:?} for {theirs:?}")
+    });
+    closing
+}
+
+/// The closing code from every State, at both levels, with the DSVs around the point where the choice tips. Each of SY0's four codes comes up, and so do equal
+/// absolute DSVs, at which the code is the class's Primary.
+pub fn closings(report: &mut Report, t: &Tables) {
+    report.begin("writer: closing codes by DSV");
+    let mut written = BTreeMap::new();
+    for (state, level, dsv) in (1..=4).flat_map(|s| [0, 1].into_iter().flat_map(move |l| (-80..=80).map(move |d| (s, l, d)))) {
+        let closing = compare_closing(report, t, Record { state, level, dsv, sectors: 16, closed: false });
+        let is_equal = closing.dsvs[0].abs() == closing.dsvs[1].abs();
+        *written.entry((closing.code, is_equal)).or_insert(0) += 1;
+    }
+    let code = |first: u16| [first.to_be_bytes(), SYNC_END.to_be_bytes()].concat();
+    for [primary, secondary] in [t.codes(1, 0), t.codes(3, 0)] {
+        let times = |first, is_equal| written.get(&(code(first), is_equal)).copied().unwrap_or(0);
+        let is_seen = times(primary, false) > 0 && times(secondary, false) > 0;
+        report.check(is_seen && times(primary, true) == 4 && times(secondary, true) == 0, || format!("codes and equal DSVs: {written:02X?}"));
+    }
+    report.end();
 }
 
 /// A record that a sector may follow: in a run's first block, at its end, or anywhere.
@@ -179,7 +202,7 @@ fn end(report: &mut Report, t: &Tables, record: Record, bytes: &[u8]) {
         due => sector_refused(report, record, bytes, LAID, due),
     }
     match record.closing_refusal(4) {
-        0 => compare_closing(report, t, record),
+        0 => drop(compare_closing(report, t, record)),
         due => closing_refused(report, record, 4, due),
     }
 }
@@ -214,7 +237,7 @@ pub fn refusals(report: &mut Report, random: &mut Random, t: &Tables, count: usi
         }
         let to = [4, 3, 4, 5, 4][random.below(5)];
         match record.closing_refusal(to) {
-            0 => compare_closing(report, t, record),
+            0 => drop(compare_closing(report, t, record)),
             due => closing_refused(report, record, to, due),
         }
         report.check(library::new_record(&record) == Record::start(), || format!("new after {record:?}"));

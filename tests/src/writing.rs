@@ -87,6 +87,16 @@ struct Stream {
 }
 
 impl Stream {
+    /// Nothing laid yet, from a record.
+    fn after(record: &Record) -> Stream {
+        Stream {
+            halves: Vec::new(),
+            state: record.state,
+            level: record.level,
+            dsv: record.dsv,
+        }
+    }
+
     fn lay(&mut self, half: u16) {
         for n in (0..16).rev() {
             self.level ^= (half >> n & 1) as u8;
@@ -155,12 +165,7 @@ fn step(t: &Tables, streams: &mut [Stream; 2], byte: u8) {
 }
 
 fn frame(t: &Tables, record: &mut Record, code: usize, bytes: &[u8], out: &mut Vec<u16>) -> FrameTrace {
-    let empty = Stream {
-        halves: Vec::new(),
-        state: record.state,
-        level: record.level,
-        dsv: record.dsv,
-    };
+    let empty = Stream::after(record);
     let codes = t.codes(record.state, code);
     let mut streams = [empty.clone(), empty.clone()];
     streams[0].lay_sync(codes[0]);
@@ -213,17 +218,25 @@ pub fn write_sector(t: &Tables, record: &mut Record, bytes: &[u8]) -> (Vec<u8>, 
     (packed(&halves), traces)
 }
 
-pub fn close(t: &Tables, record: &mut Record) -> Vec<u8> {
-    let mut stream = Stream {
-        halves: Vec::new(),
-        state: record.state,
-        level: record.level,
-        dsv: record.dsv,
-    };
-    stream.lay_sync(t.codes(record.state, 0)[0]);
-    (record.state, record.level, record.dsv) = (stream.state, stream.level, stream.dsv);
+/// How a run was closed.
+pub struct Closing {
+    pub code: Vec<u8>,
+    /// The DSV after the Primary and after the Secondary code.
+    pub dsvs: [i64; 2],
+}
+
+/// The SY0 of the prescribed class with the lower absolute DSV, the Primary where both are equal (document 02, request 7).
+pub fn close(t: &Tables, record: &mut Record) -> Closing {
+    let [primary, secondary] = t.codes(record.state, 0).map(|first| {
+        let mut stream = Stream::after(record);
+        stream.lay_sync(first);
+        stream
+    });
+    let dsvs = [primary.dsv, secondary.dsv];
+    let written = if secondary.dsv.abs() < primary.dsv.abs() { secondary } else { primary };
+    (record.state, record.level, record.dsv) = (written.state, written.level, written.dsv);
     record.closed = true;
-    packed(&stream.halves)
+    Closing { code: packed(&written.halves), dsvs }
 }
 
 /// A run of whole blocks by the two-stream rule, and the record after each sector and after closing.
@@ -235,7 +248,7 @@ pub fn write_run(t: &Tables, blocks: &[u8]) -> (Vec<u8>, Vec<Record>) {
         stream.extend(write_sector(t, &mut record, sector).0);
         records.push(record);
     }
-    stream.extend(close(t, &mut record));
+    stream.extend(close(t, &mut record).code);
     records.push(record);
     (stream, records)
 }
@@ -277,15 +290,19 @@ impl Chooser for Follow<'_> {
     }
 }
 
-/// The permitted stream of a run of blocks that a chooser takes, with its closing code, or none where the chooser finds no permitted word.
+/// One of the two codes of a class, as a chooser takes it.
+fn permitted_code(codes: [u16; 2], chooser: &mut dyn Chooser) -> Option<[u16; 2]> {
+    let first = codes[chooser.pick(&codes)?];
+    chooser.pick(&[SYNC_END])?;
+    Some([first, SYNC_END])
+}
+
+/// The permitted stream of a run of blocks that a chooser takes, its closing code too, or none where the chooser finds no permitted word.
 pub fn permitted_stream(t: &Tables, blocks: &[u8], chooser: &mut dyn Chooser) -> Option<Vec<u8>> {
     let mut halves = Vec::new();
     let mut state = 1;
     for (f, part) in blocks.chunks(91).enumerate() {
-        let codes = t.codes(state, sync_numbers()[f % 26]);
-        halves.push(codes[chooser.pick(&codes)?]);
-        halves.push(SYNC_END);
-        chooser.pick(&[SYNC_END])?;
+        halves.extend(permitted_code(t.codes(state, sync_numbers()[f % 26]), chooser)?);
         state = 1;
         for &byte in part {
             let entries = permitted(t, byte, state, *halves.last().unwrap());
@@ -295,7 +312,6 @@ pub fn permitted_stream(t: &Tables, blocks: &[u8], chooser: &mut dyn Chooser) ->
             state = e.next;
         }
     }
-    halves.push(t.codes(state, 0)[0]);
-    halves.push(SYNC_END);
+    halves.extend(permitted_code(t.codes(state, 0), chooser)?);
     Some(packed(&halves))
 }

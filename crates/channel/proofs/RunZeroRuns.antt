@@ -13,7 +13,7 @@ use Rattle.lists.proofs.Test.{and-left, and-right, and-both}
 use Rattle.annexg.specs.ZeroRuns.{bitsOf, inside}
 use Rattle.layout.specs.Lengths.{frameBytes, frameHalves, frameBits, blockFrames}
 use Rattle.channel.specs.Bits.{bitsAll, bitsBytes, syncHalf, zeroRunFits, blockZeroRunFits}
-use Rattle.channel.specs.Block.{frames, Blocks, runItems, closed, permittedRun, runStream}
+use Rattle.channel.specs.Block.{frames, Blocks, runItems, permittedRun, runStream}
 use Rattle.bytes.specs.Halves.{packed}
 use Rattle.channel.specs.Channel.{Item, sync, byte, permitted, stream, allProper}
 use Rattle.channel.proofs.Places.{head-length, tail-length}
@@ -88,9 +88,9 @@ run-zero-runs run cs h p head tail k q =
     let begins = run-head run in
     let items = sync 0 ∷ begins .tail in
     let proper = subst (λ (is : List Item). T (allProper is)) (begins .is) (run-proper run h) in
-    let permits = subst (λ (is : List Item). T (permitted 1 0 is (closed cs))) (begins .is) p in
-    let bits = packed-bits (stream 1 (runItems run) (closed cs)) ∙ q in
+    let permits = subst (λ (is : List Item). T (permitted 1 0 is cs)) (begins .is) p in
+    let bits = packed-bits (stream 1 (runItems run) cs) ∙ q in
     let fits =
-    zero-runs 1 0 0 (begins .tail) (closed cs) proper (record { low = omega arith; high = omega arith }) permits head tail k
-    (subst (λ (is : List Item). bitsAll (stream 1 is (closed cs)) ≡ head ++ 1 ∷ (replicate k 0 ++ 1 ∷ tail)) (begins .is) bits) in
+    zero-runs 1 0 0 (begins .tail) cs proper (record { low = omega arith; high = omega arith }) permits head tail k
+    (subst (λ (is : List Item). bitsAll (stream 1 is cs) ≡ head ++ 1 ∷ (replicate k 0 ++ 1 ∷ tail)) (begins .is) bits) in
     to-run run (length head) k (inside 2 10 k) h (subst (λ (is : List Item). T (zeroRunFits is (length head) k)) (sym (begins .is)) fits)

@@ -1,5 +1,6 @@
 -- A run's stream, block by block: its items are proper and begin with SY0 (run-proper, run-head), it is 77,376 bytes a block and 4 (run-stream-length), and block
--- k of it is that block's sectors and the SYNC Code after them, laid from the State that the blocks before it leave (block-part).
+-- k of it is that block's sectors and the SYNC Code after them, laid from the State that the blocks before it leave (block-part). Its last four bytes are SY0,
+-- Primary or Secondary (closing-part).
 -- Assumes nothing.
 use mathlib.Core.Path.{_≡_, refl, sym, ap, subst, _∙_}
 use mathlib.Core.Bool.{Bool}
@@ -10,11 +11,12 @@ use lib.Dec.{T}
 use lib.ListN.{length, take, drop}
 use lib.Seq.{take-at, drop-append-add}
 use Rattle.annexg.specs.Read.{State}
+use Rattle.annexg.specs.Sync.{syncEnd, codeFor}
 use Rattle.bytes.specs.Halves.{packed}
 use Rattle.bytes.proofs.Halves.{packed-length, packed-append}
 use Rattle.layout.specs.Lengths.{frameHalves, blockFrames, sectorsStream, streamSize}
 use Rattle.layout.specs.Sectors.{codeOf, frameCodes, blockPart, runSize}
-use Rattle.channel.specs.Block.{frames, Blocks, runItems, blockItems, closed, permittedRun, runStream}
+use Rattle.channel.specs.Block.{frames, Blocks, runItems, blockItems, permittedRun, runStream}
 use Rattle.channel.specs.Channel.{Item, sync, permitted, stream, stateAfter, lastAfter, place, allProper}
 use Rattle.channel.proofs.Joined.{halves, halves-frames, stream-append, stream-length, permitted-cut, state-after}
 use Rattle.channel.proofs.Places.{proper-append, frames-proper}
@@ -47,7 +49,7 @@ run-halves (b ∷ run) h = omega (arith, halves-frames blockFrames 0 b (runItems
 pub run-stream-length : (run : List (List ℕ)) (cs : List Bool) → Blocks run → T (permittedRun run cs) → length (runStream run cs) ≡ runSize (length run)
 run-stream-length run cs h p =
     let items = runItems run in
-    omega (arith, packed-length (stream 1 items (closed cs)), stream-length 1 0 items (closed cs) p, run-halves run h)
+    omega (arith, packed-length (stream 1 items cs), stream-length 1 0 items cs p, run-halves run h)
 
 -- ---- a block of a run
 
@@ -102,7 +104,7 @@ record Rest (s l : ℕ) (a : List ℕ) (run : List (List ℕ)) (cs : List Bool) 
   choices : List Bool
   is-state : State state
   ok : T (permitted state last (runItems run) choices)
-  part : (k : ℕ) → blockPart (packed (stream s (runItems (a ∷ run)) cs)) (suc k) ≡ blockPart (packed (stream state (runItems run) choices)) k
+  later : (k : ℕ) → drop (sectorsStream * suc k) (packed (stream s (runItems (a ∷ run)) cs)) ≡ drop (sectorsStream * k) (packed (stream state (runItems run) choices))
 
 run-rest : (s l : ℕ) (a : List ℕ) (run : List (List ℕ)) (cs : List Bool) → State s → Blocks (a ∷ run) → T (permitted s l (runItems (a ∷ run)) cs) → Rest s l a run cs
 unfolding runItems Blocks
@@ -123,11 +125,11 @@ run-rest s l a run cs hs h p =
       choices = cut .rest;
       is-state = state-after s l items (cut .first) (frames-proper blockFrames 0 a (h .0 .0) (h .0 .1)) hs (cut .first-permitted);
       ok = cut .rest-permitted;
-      part = λ k.
+      later = λ k.
           let e : sectorsStream * suc k ≡ length (packed own) + sectorsStream * k = omega (arith, long) in
-          ap (λ (xs : List ℕ). blockPart xs (suc k)) split
-          ∙ ap (λ (n : ℕ). take streamSize (drop n (packed own ++ packed rest))) e
-          ∙ ap (take streamSize) (drop-append-add (packed own) (packed rest) (sectorsStream * k));
+          ap (drop (sectorsStream * suc k)) split
+          ∙ ap (λ (n : ℕ). drop n (packed own ++ packed rest)) e
+          ∙ drop-append-add (packed own) (packed rest) (sectorsStream * k);
     }
 
 part-from :
@@ -139,11 +141,35 @@ part-from s l [] b after cs hs h p = first-part s l b after cs hs h p
 part-from s l (a ∷ before) b after cs hs h p =
     let run = before ++ b ∷ after in
     let rest = run-rest s l a run cs hs h p in
-    subst (LaidBlock b) (sym (rest .part (length before)))
+    subst (LaidBlock b) (sym (ap (take streamSize) (rest .later (length before))))
     (part-from (rest .state) (rest .last) before b after (rest .choices) (rest .is-state) (h .1) (rest .ok))
 
 -- block k of a run's stream, k blocks having gone before it
 pub block-part :
     (before : List (List ℕ)) (b : List ℕ) (after : List (List ℕ)) (cs : List Bool) → Blocks (before ++ b ∷ after) → T (permittedRun (before ++ b ∷ after) cs)
     → LaidBlock b (blockPart (runStream (before ++ b ∷ after) cs) (length before))
-block-part before b after cs h p = part-from 1 0 before b after (closed cs) (record { low = omega arith; high = omega arith }) h p
+block-part before b after cs h p = part-from 1 0 before b after cs (record { low = omega arith; high = omega arith }) h p
+
+-- ---- the closing code
+
+-- ys is SY0 in the class that a State selects, by a choice
+pub record ClosingLaid (ys : List ℕ) : Type 0 where
+  pub state : ℕ
+  pub choice : Bool
+  pub is-state : State state
+  pub is : ys ≡ packed (codeFor state 0 choice ∷ syncEnd ∷ [])
+
+closing-from :
+    (s l : ℕ) (run : List (List ℕ)) (cs : List Bool) → State s → Blocks run → T (permitted s l (runItems run) cs)
+    → ClosingLaid (drop (sectorsStream * length run) (packed (stream s (runItems run) cs)))
+unfolding runItems Blocks permitted stream
+closing-from s l [] [] hs h p = absurd p
+closing-from s l [] (c ∷ []) hs h p = record { state = s; choice = c; is-state = hs; is = refl }
+closing-from s l [] (c ∷ (d ∷ cs)) hs h p = absurd p
+closing-from s l (a ∷ run) cs hs h p =
+    let rest = run-rest s l a run cs hs h p in
+    subst ClosingLaid (sym (rest .later (length run))) (closing-from (rest .state) (rest .last) run (rest .choices) (rest .is-state) (h .1) (rest .ok))
+
+-- what follows the blocks of a run, Primary or Secondary (document 02, request 7)
+pub closing-part : (run : List (List ℕ)) (cs : List Bool) → Blocks run → T (permittedRun run cs) → ClosingLaid (drop (sectorsStream * length run) (runStream run cs))
+closing-part run cs h p = closing-from 1 0 run cs (record { low = omega arith; high = omega arith }) h p

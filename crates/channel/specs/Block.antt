@@ -43,17 +43,14 @@ unfoldable pub runItems : List (List ℕ) → List Item
 runItems [] = sync 0 ∷ []
 runItems (b ∷ run) = frames 0 blockFrames b ++ runItems run
 
--- the choices of a run with the closing code's, which is the Primary
-abbrev pub closed : List Bool → List Bool
-closed cs = cs ++ (false ∷ [])
-
 -- a list of permitted choices over a run, and the permitted stream that it takes: a run starts at State 1 with a SYNC Code, so no half word before it counts.
--- Every later block starts from the State and the half word that the one before it leaves
+-- Every later block starts from the State and the half word that the one before it leaves. The last choice is the closing code's, Primary or Secondary
+-- (document 02, request 7)
 abbrev pub permittedRun : List (List ℕ) → List Bool → Bool
-permittedRun run cs = permitted 1 0 (runItems run) (closed cs)
+permittedRun run cs = permitted 1 0 (runItems run) cs
 
 abbrev pub runStream : List (List ℕ) → List Bool → List ℕ
-runStream run cs = packed (stream 1 (runItems run) (closed cs))
+runStream run cs = packed (stream 1 (runItems run) cs)
 
 -- the same of a single block, which is a run by itself
 abbrev pub blockItems : List ℕ → List Item

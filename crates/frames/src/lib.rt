@@ -13,7 +13,7 @@ use end::change;
 use laying::Side;
 use levels::Running;
 use step::fill;
-use step::lower;
+pub use step::lower;
 
 // The ends of Streams 1 and 2, and how many bytes of the two buffers are known to agree: a copy leaves those out.
 pub(crate) struct Pair {

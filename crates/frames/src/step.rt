@@ -20,7 +20,7 @@ use levels::Running;
 // ---- what a byte does
 
 // Stream 1 is the lower, by the DSVs of both.
-pub(crate) fn lower(one: u64, two: u64) -> bool
+pub fn lower(one: u64, two: u64) -> bool
     ensures { λ r. ⌜ r ≡ leb (magnitude one) (magnitude two) ⌝ }
 {
     levels::absolute(one) <= levels::absolute(two)

@@ -9,7 +9,7 @@ use Rattle.annexg.specs.Sync.{isSync}
 use Rattle.bytes.specs.Halves.{halfAt}
 use Rattle.layout.specs.Lengths.{closingSize}
 
--- 'a closing Primary SY0 (4 bytes) follows' (document 01, 'Code Words and SYNC Codes'): four bytes, whose half words are one of SY0's four codes of table 4,
--- as at every other SYNC place, since the bytes do not tell which of the four was due
+-- 'a closing .. SY0 (4 bytes) follows' (document 01, 'Code Words and SYNC Codes'), Primary or Secondary (document 02, request 7): four bytes, whose half words
+-- are one of SY0's four codes of table 4, as at every other SYNC place, since the bytes do not tell which class was due
 unfoldable pub closingHolds : List ℕ → Bool
 closingHolds xs = eqb (length xs) closingSize && isSync 0 (halfAt xs 0) (halfAt xs 1)

@@ -1,7 +1,6 @@
 -- Frames, sectors and runs of blocks by the two-stream rule are permitted streams of their items.
 -- Assumes nothing.
 use mathlib.Core.Path.{_≡_, refl, sym, ap, ap₂, subst, _∙_}
-use mathlib.Core.Bool.{Bool, false}
 use mathlib.Core.List.{List, [], _∷_, _++_, map, append-assoc, append-nil}
 use Prim.Native.Nat.{ℕ, zero, suc, _+_, _*_}
 use native.Mathlib.Nat.{zero-add, suc-add, add-zero}
@@ -10,16 +9,16 @@ use lib.Dec.{T}
 use lib.ListN.{getD, take, drop}
 use lib.Seq.{take-take, drop-drop, take-nil}
 use Rattle.layout.specs.Sectors.{frameCodes, codeOf}
-use Rattle.channel.specs.Block.{frames, sectorItems, runItems, closed, permittedRun, runStream}
+use Rattle.channel.specs.Block.{frames, sectorItems, runItems, permittedRun, runStream}
 use Rattle.channel.proofs.Runs.{run-head}
 use Rattle.bytes.specs.Halves.{packed}
 use Rattle.channel.specs.Channel.{Item, sync, byte, permitted, stream}
 use Rattle.levels.specs.declared.Running.{Running}
 use Rattle.layout.specs.Lengths.{blockFrames, sectorCount, sectorSize}
 use Rattle.streams.specs.Frames.{joined, framesOf, sectorOf, sectorsOf, closingOf, runOf, choicesOf}
-use Rattle.streams.specs.Streams.{Stream, fresh, lay, frameItems, syncFrameOf}
+use Rattle.streams.specs.Streams.{Stream, opened, frameItems, syncFrameOf}
 use Rattle.streams.specs.Inner.{extended, laidBy, Laid}
-use Rattle.streams.proofs.Laid.{laid-fresh, laid-lay, laid-join, frame-laid}
+use Rattle.streams.proofs.Laid.{laid-fresh, lower-laid, opened-laid, laid-join, frame-laid}
 
 drop-take : (m n : ℕ) (l : List ℕ) → drop m (take (m + n) l) ≡ take n (drop m l)
 drop-take zero n l = rw (zero-add n)
@@ -107,9 +106,9 @@ sectors-laid r bs (suc n) =
     (laid-join r (frames 0 (26 * n) bs) m k (codeOf 0) (map byte (take 91 b) ++ frames 1 25 (drop 91 b)) (sectors-laid r bs n)
     (subst (λ (x : List Item). Laid (m .running) x k) (sector-head b) (sector-laid (m .running) b)))
 
--- the closing code
+-- PERMITTED: the closing code
 pub closing-laid : (r : Running) → Laid r (sync 0 ∷ []) (closingOf r)
-closing-laid r = laid-lay r [] (fresh r) (sync 0) false (laid-fresh r) tt
+closing-laid r = let h = opened-laid r 0 in lower-laid r (sync 0 ∷ []) (opened r 0) (h .first) (h .second)
 
 -- the sectors of a run and the closing code
 pub run-laid : (r : Running) (run : List (List ℕ)) → Laid r (runItems run) (runOf r run)
@@ -123,24 +122,14 @@ run-laid r (b ∷ run) =
     (laid-join r (frames 0 blockFrames b) m rest 0 (next .tail) (sectors-laid r b sectorCount)
     (subst (λ (is : List Item). Laid (m .running) is rest) (next .is) (run-laid (m .running) run)))
 
--- its choices are those over the sectors, and the closing code's
-run-choices : (r : Running) (run : List (List ℕ)) → runOf r run .choices ≡ closed (choicesOf r run)
-unfolding runOf choicesOf lay
-run-choices r [] = refl
-run-choices r (b ∷ run) =
-    let m = sectorsOf r b sectorCount in
-    ap (λ (cs : List Bool). m .choices ++ cs) (run-choices (m .running) run) ∙ sym (append-assoc (m .choices) (choicesOf (m .running) run) (false ∷ []))
-
--- PERMITTED: the choices of the rule over a run that starts at State 1 are permitted, whatever the bytes, and what it lays is their permitted stream
+-- PERMITTED: the choices of the rule over a run that starts at State 1 are permitted, the closing code's with them, whatever the bytes, and what it lays is their
+-- permitted stream
 module _ (r : Running) (run : List (List ℕ)) (e : r .state ≡ 1) where
   pub run-permitted : T (permittedRun run (choicesOf r run))
-  run-permitted =
-      subst (λ (s : ℕ). T (permitted s 0 (runItems run) (closed (choicesOf r run)))) e
-      (subst (λ (cs : List Bool). T (permitted (r .state) 0 (runItems run) cs)) (run-choices r run) (run-laid r run .ok))
+  run-permitted = subst (λ (s : ℕ). T (permitted s 0 (runItems run) (choicesOf r run))) e (run-laid r run .ok)
 
   pub run-stream : packed (runOf r run .halves) ≡ runStream run (choicesOf r run)
   unfolding laidBy extended
   run-stream =
       ap (λ (x : Stream). packed (x .halves)) (run-laid r run .same)
-      ∙ ap (λ (cs : List Bool). packed (stream (r .state) (runItems run) cs)) (run-choices r run)
-      ∙ ap (λ (s : ℕ). packed (stream s (runItems run) (closed (choicesOf r run)))) e
+      ∙ ap (λ (s : ℕ). packed (stream s (runItems run) (choicesOf r run))) e

@@ -2,3 +2,4 @@ pub mod Laid
 pub mod Frames
 pub mod Range
 pub mod Shown
+pub mod Closing

@@ -20,7 +20,7 @@ use Rattle.channel.proofs.Places.{frames-proper}
 use Rattle.levels.proofs.Steps.{level-small, dsv-near, bits-length}
 use Rattle.layout.specs.Lengths.{sectorSize, sectorBits}
 use Rattle.streams.specs.Frames.{sectorOf, closingOf}
-use Rattle.streams.specs.Streams.{Stream, lay}
+use Rattle.streams.specs.Streams.{Stream}
 use Rattle.streams.proofs.Frames.{sector-laid, closing-laid}
 use Rattle.streams.specs.Inner.{extended, laidBy, Laid}
 
@@ -83,7 +83,3 @@ sector-state r bs e hb s = laid-state r (frames 0 26 bs) (sectorOf r bs) (sector
 
 pub closing-near : (r : Running) → Room r 32 → Near r (closingOf r .running) 2
 closing-near r g = laid-near r (sync 0 ∷ []) (closingOf r) 2 0 (closing-laid r) g (unfold width in omega arith)
-
-pub closing-state : (r : Running) → closingOf r .running .state ≡ 1
-unfolding lay
-closing-state r = refl

@@ -28,7 +28,8 @@ shown-lower false t e = by (oneLower t) e
     by true e = absurd (subst T (sym e) tt)
     by false e = refl
 
-lower-lowest : (first : Bool) (t : Two) → magnitude (lower t .running .dsv) ≤ magnitude (streamOf first t .running .dsv)
+-- the lower of two streams has an absolute DSV of at most either's
+pub lower-lowest : (first : Bool) (t : Two) → magnitude (lower t .running .dsv) ≤ magnitude (streamOf first t .running .dsv)
 unfolding lower
 lower-lowest first t = by first (oneLower t) refl
   where

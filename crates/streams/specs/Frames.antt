@@ -1,15 +1,14 @@
 -- Frames, sectors, blocks and runs of blocks by the two-stream rule: each frame starts from the running record that the one before it left. The DSV is set to 0
 -- at the beginning of the modulation only (clause 22), and never again.
 -- Assumes nothing.
-use mathlib.Core.Bool.{Bool, false}
+use mathlib.Core.Bool.{Bool}
 use mathlib.Core.List.{List, [], _∷_, _++_}
 use Prim.Native.Nat.{ℕ, zero, suc, _*_}
 use lib.ListN.{take, drop}
 use Rattle.layout.specs.Sectors.{codeOf}
-use Rattle.channel.specs.Channel.{sync}
 use Rattle.levels.specs.declared.Running.{Running}
 use Rattle.layout.specs.Lengths.{sectorCount, sectorSize, frameBytes, sectorFrames}
-use Rattle.streams.specs.Streams.{Stream, fresh, lay, syncFrameOf}
+use Rattle.streams.specs.Streams.{Stream, fresh, lower, opened, syncFrameOf}
 
 -- a stream after another
 abbrev pub joined : Stream → Stream → Stream
@@ -33,16 +32,16 @@ sectorsOf r bs (suc n) =
     let m = sectorsOf r bs n in
     joined m (sectorOf (m .running) (take sectorSize (drop (sectorSize * n) bs)))
 
--- the closing code: the Primary SY0 of the class that the State selects
+-- the closing code: of the two streams that lay SY0's codes of the class that the State selects, the lower after the 32 bits, on equality that of the Primary
+-- (document 02, request 7)
 abbrev pub closingOf : Running → Stream
-closingOf r = lay (fresh r) (sync 0) false
+closingOf r = lower (opened r 0)
 
 -- a run of blocks: the sixteen sectors of each, and the closing code after the last. A later block starts from the running record that the one before it left
 unfoldable pub runOf : Running → List (List ℕ) → Stream
 runOf r [] = closingOf r
 runOf r (b ∷ run) = let m = sectorsOf r b sectorCount in joined m (runOf (m .running) run)
 
--- the choices that the rule takes over the sectors of a run
-unfoldable pub choicesOf : Running → List (List ℕ) → List Bool
-choicesOf r [] = []
-choicesOf r (b ∷ run) = let m = sectorsOf r b sectorCount in m .choices ++ choicesOf (m .running) run
+-- the choices that the rule takes over a run, the closing code's last
+abbrev pub choicesOf : Running → List (List ℕ) → List Bool
+choicesOf r run = runOf r run .choices

@@ -1,23 +1,29 @@
 -- A RUN JUDGED BLOCK BY BLOCK: its zero runs are judged by the 77,380 bytes of each block. Where each block's bytes hold, and the SYNC place at its start has a code
 -- due there, the whole stream holds (run-holds-by-blocks; by what the sector reader answers, run-holds-by-tallies); and where the whole stream holds, so do the
--- bytes of each block (blocks-hold-of-run). The bytes of two blocks overlap in four, a SYNC Code, whose ONEs end every zero run that begins before it.
+-- bytes of each block (blocks-hold-of-run). The bytes of two blocks overlap in four, a SYNC Code, whose ONEs end every zero run that begins before it. And the
+-- closing code of every permitted stream is one that the reader takes for one (closing-holds-of-run).
 -- Assumes nothing.
 use mathlib.Core.Path.{_≡_, refl, sym, ap, ap₂, subst, _∙_}
 use mathlib.Core.Bool.{Bool, true, false, not}
-use mathlib.Core.List.{List, _++_}
-use Prim.Native.Nat.{ℕ, zero, suc, _+_, _*_, _<_}
+use mathlib.Core.List.{List, [], _∷_, _++_}
+use Prim.Native.Nat.{ℕ, zero, suc, _+_, _*_, _/_, _%_, _<_}
 use native.Mathlib.Omega.{arith}
 use lib.Dec.{T}
 use lib.ListN.{length, getD, take, drop, length-drop, take-append-drop}
 use lib.Seq.{length-take-le, take-all, take-add, drop-drop, getD-take}
 use Rattle.lists.specs.Count.{bit}
 use Rattle.lists.proofs.Test.{truth, truth-of}
-use Rattle.annexg.specs.Sync.{isSync}
-use Rattle.bytes.specs.Halves.{halfAt}
+use Rattle.annexg.specs.Read.{State}
+use Rattle.annexg.specs.Sync.{isSync, syncEnd, codeFor}
+use Rattle.annexg.proofs.Sync.{code-is-sync}
+use Rattle.bytes.specs.Halves.{packed, halfAt}
 use Rattle.layout.specs.Lengths.{frameStream, sectorRead, blockFrames, sectorsStream, closingSize, streamSize}
 use Rattle.layout.specs.Sectors.{codeOf, sectorPart, blockPart, runSize}
 use Rattle.channel.specs.Bits.{bitsBytes, zeroRunsHold}
+use Rattle.channel.specs.Block.{Blocks, permittedRun, runStream}
+use Rattle.channel.proofs.Runs.{closing-part}
 use Rattle.channel.proofs.Overlaps.{hasOne, sync-has-one, stream-front, stream-rest, streams-overlap}
+use Rattle.reader.specs.Closing.{closingHolds}
 use Rattle.reader.specs.Sector.{lostSync, syncTally}
 
 -- ---- a block's first SYNC place
@@ -105,3 +111,16 @@ blocks-hold-of-run n xs l hold k h =
     let split : later ≡ take streamSize later ++ drop streamSize later = sym (take-append-drop streamSize later) in
     truth (zeroRunsHold (blockPart xs k))
     (stream-front (take streamSize later) (drop streamSize later) (subst (λ (ys : List ℕ). T (zeroRunsHold ys)) split there))
+
+-- ---- the closing code
+
+code-holds : (s : ℕ) (c : Bool) → State s → closingHolds (packed (codeFor s 0 c ∷ syncEnd ∷ [])) ≡ true
+unfolding closingHolds packed halfAt
+code-holds s c hs = let h = codeFor s 0 c in code-is-sync 0 (h / 256 * 256 + h % 256) syncEnd s c hs (omega arith) refl
+
+-- a run's permitted stream ends with a code of SY0, whichever was taken
+pub closing-holds-of-run : (run : List (List ℕ)) (cs : List Bool) → Blocks run → T (permittedRun run cs)
+    → closingHolds (drop (sectorsStream * length run) (runStream run cs)) ≡ true
+closing-holds-of-run run cs h p =
+    let end = closing-part run cs h p in
+    ap closingHolds (end .is) ∙ code-holds (end .state) (end .choice) (end .is-state)

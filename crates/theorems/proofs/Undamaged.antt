@@ -33,7 +33,7 @@ use Rattle.eccblock.specs.declared.Previous.the-variants.{None}
 use Rattle.eccblock.proofs.Cells.{code-row-length}
 use Rattle.eccblock.proofs.Laws.{block-length, block-bytes, block-row, block-column, block-row-code, block-column-code, code-row-bytes, code-column-bytes}
 use Rattle.layout.specs.Sectors.{frameCodes, codeOf, halfOf, sectorPart, blockPart}
-use Rattle.channel.specs.Block.{closed, permittedRun, runStream, permittedChoices, permittedStream, readBlock, farRows}
+use Rattle.channel.specs.Block.{permittedRun, runStream, permittedChoices, permittedStream, readBlock, farRows}
 use Rattle.bytes.specs.Halves.{halfAt}
 use Rattle.channel.proofs.Sectors.{part-half, half-of, half-small, reads-whole}
 use Rattle.channel.proofs.Rows.{LaidBlock}
@@ -203,7 +203,7 @@ block-undamaged main first info ok cs p =
     (record {
       state = 1;
       last = 0;
-      choices = closed cs;
+      choices = cs;
       size = block-length main first info ok;
       bytes = block-bytes main first info ok;
       is-state = record { low = omega arith; high = omega arith };

@@ -23,7 +23,8 @@ use Rattle.bytes.proofs.Halves.{packed-append}
 use Rattle.streams.specs.Frames.{sectorOf, sectorsOf, closingOf, runOf, choicesOf}
 use Rattle.streams.specs.Streams.{Stream}
 use Rattle.streams.proofs.Frames.{run-permitted, run-stream}
-use Rattle.streams.proofs.Range.{sector-near, sector-state, closing-near, closing-state}
+use Rattle.streams.proofs.Closing.{closing-state}
+use Rattle.streams.proofs.Range.{sector-near, sector-state, closing-near}
 use Rattle.writer.specs.Answers.{closes, sound, ended, sectorRefusal, closingRefusal, sectorNext, sectorOut, closingNext, closingOut}
 use Rattle.writer.specs.Records.{start, runningOf, recordOf, afterSector, afterBlock, afterClosing}
 use Rattle.writer.specs.Session.{Session, sectorAt, sectorCalls, runCalls, NoneRefused, Handed, at-start, after-sector, after-closing}

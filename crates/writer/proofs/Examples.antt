@@ -1,8 +1,16 @@
--- Document 02's words on a run, request 1, held against the definitions: at which counts closing is accepted (closing-counts), and which sector is the last
--- (last-sector, no-sector-after).
+-- Document 02's words on a run held against the definitions. Request 1: at which counts closing is accepted (closing-counts), and which sector is the last
+-- (last-sector, no-sector-after). Request 7: the closing code where the choice tips (closing-equal, closing-tipped).
 -- Assumes nothing.
 use mathlib.Core.Path.{_≡_, refl}
 use mathlib.Core.Bool.{true, false}
+use mathlib.Core.List.{List, [], _∷_}
+use Prim.Native.Nat.{ℕ}
+use lib.IntN.{ℤ, pos, negsuc}
+use Rattle.annexg.specs.Sync.{syncTable}
+use Rattle.channel.specs.Bits.{bitsAll}
+use Rattle.levels.specs.Level.{levelAfter, dsvAfter}
+use Rattle.streams.specs.Frames.{closingOf}
+use Rattle.streams.specs.Streams.{lay, lower, opened}
 use Rattle.layout.specs.Lengths.{runSectors}
 use Rattle.writer.specs.Answers.{closes, ended}
 use Rattle.writer.specs.Records.{recordOf, runningOf, start}
@@ -18,3 +26,24 @@ last-sector = (refl, refl)
 
 pub no-sector-after : (ended (recordOf (runningOf start) 16777216 false) 1 ≡ true) × (ended (recordOf (runningOf start) 16777201 false) 16 ≡ true)
 no-sector-after = (refl, refl)
+
+-- request 7: the closing code from a level and a DSV of 16 sectors, in the class that the State selects. Where both codes leave 7 to either side it is the Primary
+abbrev closingHalves : ℕ → ℕ → ℤ → List ℕ
+closingHalves s l d = closingOf (runningOf (record { state = s; level = l; dsv = d; sectors = 16; closed = false })) .halves
+
+pub closing-equal :
+    (closingHalves 1 0 (pos 3) ≡ 0x1244 ∷ 0x0011 ∷ [])
+    × ((closingHalves 2 1 (negsuc 2) ≡ 0x1244 ∷ 0x0011 ∷ [])
+    × ((closingHalves 3 0 (negsuc 2) ≡ 0x9204 ∷ 0x0011 ∷ [])
+    × (closingHalves 4 1 (pos 3) ≡ 0x9204 ∷ 0x0011 ∷ [])))
+unfolding lower opened lay levelAfter dsvAfter bitsAll syncTable
+closing-equal = (refl, (refl, (refl, refl)))
+
+-- one more to the side where the Secondary leaves less
+pub closing-tipped :
+    (closingHalves 1 0 (pos 2) ≡ 0x1204 ∷ 0x0011 ∷ [])
+    × ((closingHalves 2 1 (negsuc 1) ≡ 0x1204 ∷ 0x0011 ∷ [])
+    × ((closingHalves 3 0 (negsuc 3) ≡ 0x9244 ∷ 0x0011 ∷ [])
+    × (closingHalves 4 1 (pos 4) ≡ 0x9244 ∷ 0x0011 ∷ [])))
+unfolding lower opened lay levelAfter dsvAfter bitsAll syncTable
+closing-tipped = (refl, (refl, (refl, refl)))

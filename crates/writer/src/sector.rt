@@ -1,6 +1,6 @@
 // The frames of a sector one after the other, and the closing code.
 ghost use mathlib.Core.Path.{_≡_};
-ghost use mathlib.Core.Bool.{cond};
+ghost use mathlib.Core.Bool.{not, cond};
 ghost use mathlib.Core.List.{_++_};
 ghost use Prim.Native.Nat.{_+_, _*_, _≤_};
 ghost use lib.ListN.{length, take};
@@ -11,6 +11,7 @@ ghost use Rattle.layout.specs.Lengths.{frameStream, closingSize};
 ghost use Rattle.layout.specs.Sectors.{frameCodes};
 ghost use Rattle.levels.specs.Inner.{Room, levelTable};
 ghost use Rattle.streams.specs.Frames.{sectorOf, closingOf};
+ghost use Rattle.streams.specs.Streams.{oneLower, opened};
 ghost use Rattle.writer.specs.Inner.{frameAt, FrameBegins, SectorBegins};
 use layout::FRAME_BYTES;
 use layout::FRAME_STREAM;
@@ -139,7 +140,19 @@ pub(crate) fn sector(start: Running, bytes: &[u8], out: &mut [u8]) -> Running
     )
 }
 
-// The closing code from a running record: SY0, Primary.
+// The choice of the closing code (document 02, request 7): Secondary just where that SY0 of the class leaves a lower absolute DSV after its 32 bits than the Primary.
+fn closing_choice(syncs: &[u16; 32], levels: &[u8; 256], start: Running) -> bool
+    requires { ⌜ now levels ≡ levelTable ⌝ }
+    requires { ⌜ now syncs ≡ syncTable ⌝ }
+    requires { ⌜ Room start 32 ⌝ }
+    ensures { λ r. ⌜ r ≡ not (oneLower (opened start 0)) ⌝ }
+{
+    let primary = start.sync(levels, annexg::sync_code(syncs, start.state, 0, false));
+    let secondary = start.sync(levels, annexg::sync_code(syncs, start.state, 0, true));
+    !frames::lower(primary.dsv, secondary.dsv)
+}
+
+// The closing code from a running record: SY0, by the DSV.
 pub(crate) fn closing(start: Running, out: &mut [u8]) -> Running
     requires { ⌜ Room start 32 ⌝ }
     requires { ⌜ length (now out) ≡ closingSize ⌝ }
@@ -148,6 +161,7 @@ pub(crate) fn closing(start: Running, out: &mut [u8]) -> Running
 {
     let syncs = annexg::sync_table();
     let levels = levels::level_table();
-    let side = laying::lay_sync(&syncs, &levels, start, 0, false, &mut *out);
+    let choice = closing_choice(&syncs, &levels, start);
+    let side = laying::lay_sync(&syncs, &levels, start, 0, choice, &mut *out);
     side.running
 }
