@@ -48,21 +48,33 @@ fn compare_closing(report: &mut Report, t: &Tables, record: Record) -> Closing {
     closing
 }
 
-/// The closing code from every State, at both levels, with the DSVs around the point where the choice tips. Each of SY0's four codes comes up, and so do equal
-/// absolute DSVs, at which the code is the class's Primary.
+/// Records that a run may be closed from, in every State and at both levels, with the DSVs around the point where the choice of the code tips.
+fn records_before_closing() -> Vec<Record> {
+    let mut records = Vec::new();
+    for state in 1..=4 {
+        for level in 0..=1 {
+            records.extend((-80..=80).map(|dsv| Record { state, level, dsv, sectors: 16, closed: false }));
+        }
+    }
+    records
+}
+
+/// The closing code by DSV. Each of SY0's four codes comes up; so do equal absolute DSVs, once from each State and level, and there the code is the Primary.
 pub fn closings(report: &mut Report, t: &Tables) {
     report.begin("writer: closing codes by DSV");
     let mut written = BTreeMap::new();
-    for (state, level, dsv) in (1..=4).flat_map(|s| [0, 1].into_iter().flat_map(move |l| (-80..=80).map(move |d| (s, l, d)))) {
-        let closing = compare_closing(report, t, Record { state, level, dsv, sectors: 16, closed: false });
+    for record in records_before_closing() {
+        let closing = compare_closing(report, t, record);
         let is_equal = closing.dsvs[0].abs() == closing.dsvs[1].abs();
         *written.entry((closing.code, is_equal)).or_insert(0) += 1;
     }
-    let code = |first: u16| [first.to_be_bytes(), SYNC_END.to_be_bytes()].concat();
     for [primary, secondary] in [t.codes(1, 0), t.codes(3, 0)] {
-        let times = |first, is_equal| written.get(&(code(first), is_equal)).copied().unwrap_or(0);
-        let is_seen = times(primary, false) > 0 && times(secondary, false) > 0;
-        report.check(is_seen && times(primary, true) == 4 && times(secondary, true) == 0, || format!("codes and equal DSVs: {written:02X?}"));
+        let times = |first: u16, is_equal| {
+            let code = [first.to_be_bytes(), SYNC_END.to_be_bytes()].concat();
+            written.get(&(code, is_equal)).copied().unwrap_or(0)
+        };
+        report.check(times(primary, false) > 0 && times(secondary, false) > 0, || format!("codes of one class: {written:02X?}"));
+        report.check(times(primary, true) == 4 && times(secondary, true) == 0, || format!("at equal DSVs: {written:02X?}"));
     }
     report.end();
 }

@@ -36,7 +36,8 @@ returns : tie.Need-returns
 returns c =
     let laid = c .before .before .before in
     let chosen = laid .before .before .before .before in
-    let start = chosen .before .before .before .before .before .before in
+    let made = chosen .before .before .before in
+    let start = made .before .before .before in
     let a = start .args in
     let four = start .pre .1 in
     let choice = chosen .closing-choice .result in
