@@ -1,15 +1,16 @@
 -- A run's stream, block by block: its items are proper and begin with SY0 (run-proper, run-head), it is 77,376 bytes a block and 4 (run-stream-length), and block
 -- k of it is that block's sectors and the SYNC Code after them, laid from the State that the blocks before it leave (block-part). Its last four bytes are SY0,
--- Primary or Secondary (closing-part).
+-- Primary or Secondary (closing-part), and either is permitted (closing-either).
 -- Assumes nothing.
 use mathlib.Core.Path.{_≡_, refl, sym, ap, subst, _∙_}
-use mathlib.Core.Bool.{Bool}
+use mathlib.Core.Bool.{Bool, false}
 use mathlib.Core.List.{List, [], _∷_, _++_, append-assoc, append-nil}
 use Prim.Native.Nat.{ℕ, suc, _+_, _*_}
 use native.Mathlib.Omega.{arith}
 use lib.Dec.{T}
 use lib.ListN.{length, take, drop}
 use lib.Seq.{take-at, drop-append-add}
+use Rattle.lists.proofs.Test.{and-left, and-right, and-both}
 use Rattle.annexg.specs.Read.{State}
 use Rattle.annexg.specs.Sync.{syncEnd, codeFor}
 use Rattle.bytes.specs.Halves.{packed}
@@ -17,7 +18,7 @@ use Rattle.bytes.proofs.Halves.{packed-length, packed-append}
 use Rattle.layout.specs.Lengths.{frameHalves, blockFrames, sectorsStream, streamSize}
 use Rattle.layout.specs.Sectors.{codeOf, frameCodes, blockPart, runSize}
 use Rattle.channel.specs.Block.{frames, Blocks, runItems, blockItems, permittedRun, runStream}
-use Rattle.channel.specs.Channel.{Item, sync, permitted, stream, stateAfter, lastAfter, place, allProper}
+use Rattle.channel.specs.Channel.{Item, sync, nextFor, lastFor, allowed, permitted, stream, stateAfter, lastAfter, place, allProper}
 use Rattle.channel.proofs.Joined.{halves, halves-frames, stream-append, stream-length, permitted-cut, state-after}
 use Rattle.channel.proofs.Places.{proper-append, frames-proper}
 use Rattle.channel.proofs.Rows.{LaidBlock}
@@ -173,3 +174,40 @@ closing-from s l (a ∷ run) cs hs h p =
 -- what follows the blocks of a run, Primary or Secondary (document 02, request 7)
 pub closing-part : (run : List (List ℕ)) (cs : List Bool) → Blocks run → T (permittedRun run cs) → ClosingLaid (drop (sectorsStream * length run) (runStream run cs))
 closing-part run cs h p = closing-from 1 0 run cs (record { low = omega arith; high = omega arith }) h p
+
+-- a run's items end with it
+record RunEnd (run : List (List ℕ)) : Type 0 where
+  before : List Item
+  is : runItems run ≡ before ++ (sync 0 ∷ [])
+
+run-end : (run : List (List ℕ)) → RunEnd run
+unfolding runItems
+run-end [] = record { before = []; is = refl }
+run-end (b ∷ run) =
+    let frames₁ = frames 0 blockFrames b in
+    let end = run-end run in
+    record {
+      before = frames₁ ++ end .before;
+      is = ap (λ (is : List Item). frames₁ ++ is) (end .is) ∙ sym (append-assoc frames₁ (end .before) (sync 0 ∷ []));
+    }
+
+last-either :
+    (s l n : ℕ) (is : List Item) (cs : List Bool) (c d : Bool) → T (permitted s l (is ++ (sync n ∷ [])) (cs ++ (c ∷ [])))
+    → T (permitted s l (is ++ (sync n ∷ [])) (cs ++ (d ∷ [])))
+unfolding permitted
+last-either s l n [] [] c d p = tt
+last-either s l n [] (x ∷ []) c d p = absurd p
+last-either s l n [] (x ∷ (y ∷ cs)) c d p = absurd p
+last-either s l n (i ∷ []) [] c d p = absurd (and-right (allowed s l i c) false p)
+last-either s l n (i ∷ (j ∷ is)) [] c d p = absurd (and-right (allowed s l i c) false p)
+last-either s l n (i ∷ is) (x ∷ cs) c d p =
+    let now = allowed s l i x in
+    let later : Bool → Bool = λ e. permitted (nextFor s i x) (lastFor s i x) (is ++ (sync n ∷ [])) (cs ++ (e ∷ [])) in
+    and-both now (later d) (and-left now (later c) p) (last-either (nextFor s i x) (lastFor s i x) n is cs c d (and-right now (later c) p))
+
+-- EITHER CODE AT THE END: where a list of choices is permitted over a run, so is the list with the other choice for the closing code
+pub closing-either : (run : List (List ℕ)) (cs : List Bool) (c d : Bool) → T (permittedRun run (cs ++ (c ∷ []))) → T (permittedRun run (cs ++ (d ∷ [])))
+closing-either run cs c d p =
+    let end = run-end run in
+    let over : Bool → List Item → Type 0 = λ e is. T (permitted 1 0 is (cs ++ (e ∷ []))) in
+    subst (over d) (sym (end .is)) (last-either 1 0 0 (end .before) cs c d (subst (over c) (end .is) p))
