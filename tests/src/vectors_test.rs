@@ -86,13 +86,7 @@ fn far_out(report: &mut Report, t: &Tables) {
 
 /// The record before sector `st` s, by the vectors' README.
 pub fn st_record(s: u8) -> Record {
-    Record {
-        state: 1 + s % 4,
-        level: s / 4,
-        dsv: 16 * s as i64 - 56,
-        sectors: 3,
-        closed: false,
-    }
+    Record::open(1 + s % 4, s / 4, 16 * s as i64 - 56, 3)
 }
 
 fn trial14(report: &mut Report, t: &Tables) {
@@ -100,13 +94,7 @@ fn trial14(report: &mut Report, t: &Tables) {
     for line in text("trial14/list").lines() {
         let w: Vec<&str> = line.split(' ').collect();
         let n = |i: usize| w[i].parse::<i64>().unwrap();
-        let mut record = Record {
-            state: n(2) as u8,
-            level: n(3) as u8,
-            dsv: n(4),
-            sectors: n(5) as u32,
-            closed: false,
-        };
+        let mut record = Record::open(n(2) as u8, n(3) as u8, n(4), n(5) as u32);
         let sector = load(&format!("trial14/{}.sector", w[0]));
         let (stream, traces) = write_sector(t, &mut record, &sector);
         report.check(stream == load(&format!("trial14/{}.stream", w[0])), || line.into());
@@ -149,13 +137,7 @@ fn closings(report: &mut Report, t: &Tables) {
     for line in list.lines().skip(1) {
         let w: Vec<&str> = line.split('\t').collect();
         let n = |i: usize| w[i].parse::<i64>().unwrap();
-        let mut record = Record {
-            state: n(1) as u8,
-            level: n(2) as u8,
-            dsv: n(3),
-            sectors: 16,
-            closed: false,
-        };
+        let mut record = Record::open(n(1) as u8, n(2) as u8, n(3), 16);
         let closing = close(t, &mut record);
         report.check(closing.dsvs == [n(4), n(5)], || format!("{line}: {:?}", closing.dsvs));
         report.check(closing.code == u32::from_str_radix(w[6], 16).unwrap().to_be_bytes(), || format!("{line}: {:02X?}", closing.code));

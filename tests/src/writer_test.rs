@@ -53,7 +53,7 @@ fn records_before_closing() -> Vec<Record> {
     let mut records = Vec::new();
     for state in 1..=4 {
         for level in 0..=1 {
-            records.extend((-80..=80).map(|dsv| Record { state, level, dsv, sectors: 16, closed: false }));
+            records.extend((-80..=80).map(|dsv| Record::open(state, level, dsv, 16)));
         }
     }
     records
@@ -96,13 +96,8 @@ pub fn random_record(random: &mut Random) -> Record {
         _ => random.next() % (limit + 1),
     };
     let size = size.min(limit) as i64;
-    Record {
-        state: 1 + random.below(4) as u8,
-        level: random.below(2) as u8,
-        dsv: if random.coin() { size } else { -size },
-        sectors,
-        closed: false,
-    }
+    let (state, level) = (1 + random.below(4) as u8, random.below(2) as u8);
+    Record::open(state, level, if random.coin() { size } else { -size }, sectors)
 }
 
 /// Bytes that lean to one side of the DSV keep it far out; few different bytes, or all of them.

@@ -19,13 +19,12 @@ pub struct Record {
 
 impl Record {
     pub fn start() -> Record {
-        Record {
-            state: 1,
-            level: 0,
-            dsv: 0,
-            sectors: 0,
-            closed: false,
-        }
+        Record::open(1, 0, 0, 0)
+    }
+
+    /// A record before closing.
+    pub fn open(state: u8, level: u8, dsv: i64, sectors: u32) -> Record {
+        Record { state, level, dsv, sectors, closed: false }
     }
 
     /// Whether a run may be closed here: after the last sector of a block.

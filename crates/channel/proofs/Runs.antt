@@ -13,15 +13,16 @@ use lib.Seq.{take-at, drop-append-add}
 use Rattle.lists.proofs.Test.{and-left, and-right, and-both}
 use Rattle.annexg.specs.Read.{State}
 use Rattle.annexg.specs.Sync.{syncEnd, codeFor}
-use Rattle.bytes.specs.Halves.{packed}
-use Rattle.bytes.proofs.Halves.{packed-length, packed-append}
-use Rattle.layout.specs.Lengths.{frameHalves, blockFrames, sectorsStream, streamSize}
+use Rattle.bytes.specs.Halves.{packed, halfAt}
+use Rattle.bytes.proofs.Halves.{packed-length, packed-append, half-packed}
+use Rattle.layout.specs.Lengths.{frameHalves, blockFrames, sectorsStream, closingSize, streamSize}
 use Rattle.layout.specs.Sectors.{codeOf, frameCodes, blockPart, runSize}
 use Rattle.channel.specs.Block.{frames, Blocks, runItems, blockItems, permittedRun, runStream}
 use Rattle.channel.specs.Channel.{Item, sync, nextFor, lastFor, allowed, permitted, stream, stateAfter, lastAfter, place, allProper}
 use Rattle.channel.proofs.Joined.{halves, halves-frames, stream-append, stream-length, permitted-cut, state-after}
 use Rattle.channel.proofs.Places.{proper-append, frames-proper}
 use Rattle.channel.proofs.Rows.{LaidBlock}
+use Rattle.channel.proofs.Undisturbed.{SyncAt}
 
 -- ---- the items of a run
 
@@ -153,19 +154,21 @@ block-part before b after cs h p = part-from 1 0 before b after cs (record { low
 
 -- ---- the closing code
 
--- ys is SY0 in the class that a State selects, by a choice
-pub record ClosingLaid (ys : List ℕ) : Type 0 where
-  pub state : ℕ
-  pub choice : Bool
-  pub is-state : State state
-  pub is : ys ≡ packed (codeFor state 0 choice ∷ syncEnd ∷ [])
+-- ys is four bytes, a code of SY0
+abbrev pub ClosingLaid : List ℕ → Type 0
+ClosingLaid ys = (length ys ≡ closingSize) × SyncAt 0 (halfAt ys 0) (halfAt ys 1)
+
+code-laid : (s : ℕ) (c : Bool) → State s → ClosingLaid (packed (codeFor s 0 c ∷ syncEnd ∷ []))
+code-laid s c hs =
+    let code = codeFor s 0 c ∷ syncEnd ∷ [] in
+    (packed-length code, record { state = s; choice = c; is-state = hs; first = half-packed code 0; second = half-packed code 1 })
 
 closing-from :
     (s l : ℕ) (run : List (List ℕ)) (cs : List Bool) → State s → Blocks run → T (permitted s l (runItems run) cs)
     → ClosingLaid (drop (sectorsStream * length run) (packed (stream s (runItems run) cs)))
 unfolding runItems Blocks permitted stream
 closing-from s l [] [] hs h p = absurd p
-closing-from s l [] (c ∷ []) hs h p = record { state = s; choice = c; is-state = hs; is = refl }
+closing-from s l [] (c ∷ []) hs h p = code-laid s c hs
 closing-from s l [] (c ∷ (d ∷ cs)) hs h p = absurd p
 closing-from s l (a ∷ run) cs hs h p =
     let rest = run-rest s l a run cs hs h p in

@@ -34,7 +34,9 @@ module _ (r : Running) where
 
   pub closing-primary : magnitude (coded false .running .dsv) ≡ magnitude (coded true .running .dsv) → closingOf r ≡ coded false
   unfolding opened
-  closing-primary e = closing-by-choice ∙ ap (λ (b : Bool). coded (not b)) (le-leb (magnitude (coded false .running .dsv)) (magnitude (coded true .running .dsv)) (omega arith))
+  closing-primary e =
+      let first = le-leb (magnitude (coded false .running .dsv)) (magnitude (coded true .running .dsv)) (omega arith) in
+      closing-by-choice ∙ ap (λ (b : Bool). coded (not b)) first
 
   pub closing-state : closingOf r .running .state ≡ 1
   unfolding lay

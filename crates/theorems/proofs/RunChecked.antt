@@ -4,19 +4,19 @@
 -- closing code of every permitted stream is one that the reader takes for one (closing-holds-of-run).
 -- Assumes nothing.
 use mathlib.Core.Path.{_≡_, refl, sym, ap, ap₂, subst, _∙_}
-use mathlib.Core.Bool.{Bool, true, false, not}
-use mathlib.Core.List.{List, [], _∷_, _++_}
-use Prim.Native.Nat.{ℕ, zero, suc, _+_, _*_, _/_, _%_, _<_}
+use mathlib.Core.Bool.{Bool, true, false, not, _&&_}
+use mathlib.Core.List.{List, _++_}
+use Prim.Native.Nat.{ℕ, zero, suc, _+_, _*_, _<_}
 use native.Mathlib.Omega.{arith}
+use borrow.Author.Tests.{eq-eqb}
 use lib.Dec.{T}
 use lib.ListN.{length, getD, take, drop, length-drop, take-append-drop}
 use lib.Seq.{length-take-le, take-all, take-add, drop-drop, getD-take}
 use Rattle.lists.specs.Count.{bit}
 use Rattle.lists.proofs.Test.{truth, truth-of}
-use Rattle.annexg.specs.Read.{State}
-use Rattle.annexg.specs.Sync.{isSync, syncEnd, codeFor}
+use Rattle.annexg.specs.Sync.{isSync}
 use Rattle.annexg.proofs.Sync.{code-is-sync}
-use Rattle.bytes.specs.Halves.{packed, halfAt}
+use Rattle.bytes.specs.Halves.{halfAt}
 use Rattle.layout.specs.Lengths.{frameStream, sectorRead, blockFrames, sectorsStream, closingSize, streamSize}
 use Rattle.layout.specs.Sectors.{codeOf, sectorPart, blockPart, runSize}
 use Rattle.channel.specs.Bits.{bitsBytes, zeroRunsHold}
@@ -114,13 +114,12 @@ blocks-hold-of-run n xs l hold k h =
 
 -- ---- the closing code
 
-code-holds : (s : ℕ) (c : Bool) → State s → closingHolds (packed (codeFor s 0 c ∷ syncEnd ∷ [])) ≡ true
-unfolding closingHolds packed halfAt
-code-holds s c hs = let h = codeFor s 0 c in code-is-sync 0 (h / 256 * 256 + h % 256) syncEnd s c hs (omega arith) refl
-
 -- a run's permitted stream ends with a code of SY0, whichever was taken
 pub closing-holds-of-run : (run : List (List ℕ)) (cs : List Bool) → Blocks run → T (permittedRun run cs)
     → closingHolds (drop (sectorsStream * length run) (runStream run cs)) ≡ true
+unfolding closingHolds
 closing-holds-of-run run cs h p =
-    let end = closing-part run cs h p in
-    ap closingHolds (end .is) ∙ code-holds (end .state) (end .choice) (end .is-state)
+    let end = drop (sectorsStream * length run) (runStream run cs) in
+    let (four, code) = closing-part run cs h p in
+    ap₂ _&&_ (eq-eqb (length end) closingSize four)
+    (code-is-sync 0 (halfAt end 0) (halfAt end 1) (code .state) (code .choice) (code .is-state) (code .first) (code .second))

@@ -27,7 +27,7 @@ last-sector = (refl, refl)
 pub no-sector-after : (ended (recordOf (runningOf start) 16777216 false) 1 ≡ true) × (ended (recordOf (runningOf start) 16777201 false) 16 ≡ true)
 no-sector-after = (refl, refl)
 
--- request 7: the closing code from a level and a DSV of 16 sectors, in the class that the State selects. Where both codes leave 7 to either side it is the Primary
+-- request 7: the closing code from a State, a level and a DSV, where `negsuc n` is −1 − n. Where both codes of the class leave 7 to either side it is the Primary
 abbrev closingHalves : ℕ → ℕ → ℤ → List ℕ
 closingHalves s l d = closingOf (runningOf (record { state = s; level = l; dsv = d; sectors = 16; closed = false })) .halves
 
@@ -39,7 +39,7 @@ pub closing-equal :
 unfolding lower opened lay levelAfter dsvAfter bitsAll syncTable
 closing-equal = (refl, (refl, (refl, refl)))
 
--- one more to the side where the Secondary leaves less
+-- with the DSV one further to the side where the Secondary leaves less
 pub closing-tipped :
     (closingHalves 1 0 (pos 2) ≡ 0x1204 ∷ 0x0011 ∷ [])
     × ((closingHalves 2 1 (negsuc 1) ≡ 0x1204 ∷ 0x0011 ∷ [])
