@@ -102,18 +102,19 @@ uint32_t chamanzil_format_block(const uint8_t *main, size_t main_len, uint32_t f
 /* The writer's record. The caller keeps it for as long as the writer runs, over all blocks of a run, and lends it to each call, by a pointer that is never NULL.
  * A call that answers 0 leaves the next record there, and a refusal leaves it as it was. The members may be read, kept elsewhere and put back at any time. A
  * record that no writer hands out is refused with 9: a State that is not 1 to 4, a level that is not 0 or 1, more than CHAMANZIL_RUN_SECTORS sectors, closed at 0
- * or at a count that is no multiple of 16, or a DSV over 38,688 a sector (and 32 if closed) to either side. `closed` holds 0 or 1 and nothing else. The bytes
- * between the members have no meaning: compare members. */
+ * or at a count that is no multiple of 16, a DSV over 38,688 a sector (and 32 if closed) to either side, a peak below the absolute DSV (by more than 32 if closed)
+ * or over 38,688 a sector. `closed` holds 0 or 1 and nothing else. The bytes between the members have no meaning: compare members. */
 struct chamanzil_record {
     uint8_t state;    /* the State prescribed next, 1 to 4 */
     uint8_t level;    /* the NRZI level, 0 or 1 */
     int64_t dsv;      /* the Digital Sum Value so far */
     uint32_t sectors; /* sectors of the run written, 0 to 16,777,216 */
     bool closed;      /* whether the closing code is written */
+    uint64_t peak;    /* the greatest absolute DSV at the end of a Sync Frame so far, 0 before the first; the closing code does not count */
 };
 
-/* The record before the first sector of a run: State 1, level 0, DSV 0, no sector, not closed. What `kept` held does not matter, but for `closed`, which holds
- * 0 or 1 as always. */
+/* The record before the first sector of a run: State 1, level 0, DSV 0, no sector, not closed, peak 0. What `kept` held does not matter, but for `closed`, which
+ * holds 0 or 1 as always. */
 void chamanzil_new_record(struct chamanzil_record *kept);
 
 /* A sector by the two-stream rule of clause 22. `bytes` has CHAMANZIL_SECTOR bytes (sector k of a block starts at byte 2366 k), `out` CHAMANZIL_SECTOR_STREAM.

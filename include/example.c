@@ -34,14 +34,16 @@ static void fill_main(size_t k)
 /* Block maker, sixteen sectors, closing code. */
 static void format(uint32_t first, uint8_t info)
 {
-    struct chamanzil_record kept = {0, 0, 0, 0, false};
+    struct chamanzil_record kept = {0, 0, 0, 0, false, 0};
     size_t k;
     chamanzil_new_record(&kept);
-    expect(kept.state == 1 && kept.level == 0 && kept.dsv == 0 && kept.sectors == 0 && !kept.closed, "a new record");
+    expect(kept.state == 1 && kept.level == 0 && kept.dsv == 0 && kept.sectors == 0 && !kept.closed && kept.peak == 0, "a new record");
     expect(chamanzil_encode_block(main_data, sizeof main_data, false, 0, first, info, block, sizeof block) == CHAMANZIL_DONE, "encode_block");
     for (k = 0; k < CHAMANZIL_SECTORS; k++) {
+        uint64_t before = kept.peak;
         uint32_t answer = chamanzil_write_sector(&kept, block + k * CHAMANZIL_SECTOR, CHAMANZIL_SECTOR, stream + k * CHAMANZIL_SECTOR_STREAM, CHAMANZIL_SECTOR_STREAM);
         expect(answer == CHAMANZIL_DONE && kept.sectors == k + 1, "write_sector");
+        expect(kept.peak >= before && kept.peak >= (uint64_t)llabs(kept.dsv), "the peak never falls, and the DSV is not above it");
     }
     expect(chamanzil_close(&kept, stream + CHAMANZIL_SECTORS * CHAMANZIL_SECTOR_STREAM, CHAMANZIL_CLOSING) == CHAMANZIL_DONE, "close");
     expect(kept.sectors == CHAMANZIL_SECTORS && kept.closed, "the record after closing");
@@ -62,7 +64,7 @@ static void be_refused(void)
 /* Two blocks that follow on, and the closing code after the second. */
 static void write_run(uint32_t first)
 {
-    struct chamanzil_record kept = {0, 0, 0, 0, false};
+    struct chamanzil_record kept = {0, 0, 0, 0, false, 0};
     uint8_t *second = run + CHAMANZIL_BLOCK_STREAM;
     uint8_t *closing = run + 2 * CHAMANZIL_BLOCK_STREAM;
     uint32_t answer;
@@ -83,11 +85,12 @@ static void write_run(uint32_t first)
 /* The closing code and the record after it, from a record with whole blocks. */
 static void close_from(uint8_t state, int64_t dsv, uint8_t first, uint8_t second, int64_t after)
 {
-    struct chamanzil_record kept = {0, 0, 0, 16, false};
+    struct chamanzil_record kept = {0, 0, 0, 16, false, 4};
     uint8_t code[CHAMANZIL_CLOSING] = {0, 0, 0, 0};
     kept.state = state;
     kept.dsv = dsv;
     expect(chamanzil_close(&kept, code, sizeof code) == CHAMANZIL_DONE && kept.dsv == after, "the DSV after closing");
+    expect(kept.peak == 4, "the peak after closing, which does not count");
     expect(code[0] == first && code[1] == second && code[2] == 0x00 && code[3] == 0x11, "the closing code by the DSV");
 }
 

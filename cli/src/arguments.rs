@@ -29,7 +29,7 @@ pub enum Command {
 /// An image of sectors to the stream of a run of blocks
 ///
 /// The image is any whole number of sectors of 2,048 bytes. The last block is filled up with zero sectors; how many is said, and so are the blocks and sectors of
-/// the run.
+/// the run, its DSV after the closing code, and its peak: the greatest absolute DSV at the end of a Sync Frame.
 #[derive(clap::Args)]
 #[command(after_help = "Example:\n  chamanzil format disc.img -o disc.stream --first 030000")]
 pub struct Format {

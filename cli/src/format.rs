@@ -110,6 +110,11 @@ pub fn run(chosen: &Format) -> Result<Ending, Failure> {
         1 => say("filled up with 1 zero sector"),
         more => say(format!("filled up with {more} zero sectors")),
     }
-    say(format!("blocks {blocks} sectors {}", record.sectors));
+    let Record {
+        sectors, dsv, peak, ..
+    } = record;
+    say(format!(
+        "blocks {blocks} sectors {sectors} dsv {dsv} peak {peak}"
+    ));
     Ok(Ending::Done)
 }

@@ -1,8 +1,8 @@
 //! Images to streams and back: every length at an edge, 64 MB, zero sectors, and memory that does not grow with the image.
 mod common;
 
-use chamanzil::{Writer, BLOCK_STREAM, CLOSING, MAIN};
-use common::streams::{image, run_of, zero_filled, IMAGE_SECTOR};
+use chamanzil::{Record, Writer, BLOCK_STREAM, CLOSING, MAIN};
+use common::streams::{image, run_of, said_of, written, zero_filled, IMAGE_SECTOR};
 use common::{finished, in_repository, until, Folder};
 use std::fs::{self, File};
 use std::io::{BufReader, BufWriter, Read, Write};
@@ -14,16 +14,19 @@ const LARGE_BLOCKS: usize = 1_954;
 /// What the command may hold of 64 MB, its threads and its own code included.
 const MEMORY_KB: usize = 48_000;
 
-/// Formats an image that is a whole number of sectors, and recovers it.
-fn there_and_back(image: &[u8], said: &[&str]) {
+/// Formats an image that is a whole number of sectors, and recovers it. What is said before the last line is given, and how that begins.
+fn there_and_back(image: &[u8], filled: &[&str], counts: &str) {
+    let (stream, record) = written(image, 0x03_0000, 0);
+    let last = said_of(record);
+    assert!(last.starts_with(counts), "{last}");
     let folder = Folder::with(&[("image", image)]);
     let ended = folder
         .run("format image -o stream --first 030000")
         .done()
-        .said(said);
+        .said(&[filled, &[&last]].concat());
     assert_eq!(ended.out.len(), 0);
     assert_eq!(folder.names(), ["image", "stream"]);
-    assert!(folder.read("stream") == run_of(image, 0x03_0000, 0));
+    assert!(folder.read("stream") == stream);
 
     let ended = folder
         .run(&format!("recover stream -o back --length {}", image.len()))
@@ -35,20 +38,23 @@ fn there_and_back(image: &[u8], said: &[&str]) {
     assert_eq!(folder.names(), ["back", "image", "stream", "whole"]);
 }
 
-/// Images of one block and of three, to the streams that the second formatter made of them: two are closed by the Secondary code, two by the Primary.
+/// Images of one block and of three, to the streams that the second formatter made of them: two are closed by the Secondary code, two by the Primary. The last
+/// line tells the DSV and the peak that are counted in them.
 #[test]
 fn streams_of_the_second_formatter() {
     let vectors = [
-        ("crates/trials/data/b1", "030000", "00"),
-        ("crates/trials/data/b2", "000000", "2D"),
-        ("crates/trials/data/z", "030000", "00"),
-        ("tests/data/vectors/run/run", "02FFE0", "25"),
+        ("crates/trials/data/b1", "030000", "00", [1, 2, 12]),
+        ("crates/trials/data/b2", "000000", "2D", [1, -2, 10]),
+        ("crates/trials/data/z", "030000", "00", [1, 4, 10]),
+        ("tests/data/vectors/run/run", "02FFE0", "25", [3, 6, 24]),
     ];
-    for (name, first, info) in vectors {
+    for (name, first, info, [blocks, dsv, peak]) in vectors {
         let vector = |kind: &str| fs::read(in_repository(&format!("{name}.{kind}"))).unwrap();
         let folder = Folder::with(&[("image", &vector("main"))]);
         let line = format!("format image -o stream --first {first} --info {info}");
-        folder.run(&line).done();
+        let sectors = 16 * blocks;
+        let last = format!("blocks {blocks} sectors {sectors} dsv {dsv} peak {peak}");
+        folder.run(&line).done().said(&[&last]);
         assert!(folder.read("stream") == vector("stream"), "{name}");
     }
 }
@@ -101,25 +107,25 @@ fn one_byte_less_and_one_more_than_a_block() {
 
 #[test]
 fn one_sector() {
-    let said = ["filled up with 15 zero sectors", "blocks 1 sectors 16"];
-    there_and_back(&image(2, IMAGE_SECTOR), &said);
+    let filled = "filled up with 15 zero sectors";
+    there_and_back(&image(2, IMAGE_SECTOR), &[filled], "blocks 1 sectors 16 ");
 }
 
 #[test]
 fn one_block() {
-    there_and_back(&image(3, MAIN), &["blocks 1 sectors 16"]);
+    there_and_back(&image(3, MAIN), &[], "blocks 1 sectors 16 ");
 }
 
 #[test]
 fn forty_sectors_are_three_blocks() {
-    let said = ["filled up with 8 zero sectors", "blocks 3 sectors 48"];
-    there_and_back(&image(4, 40 * IMAGE_SECTOR), &said);
+    let (image, filled) = (image(4, 40 * IMAGE_SECTOR), "filled up with 8 zero sectors");
+    there_and_back(&image, &[filled], "blocks 3 sectors 48 ");
 }
 
 #[test]
 fn one_zero_sector_is_one() {
-    let said = ["filled up with 1 zero sector", "blocks 2 sectors 32"];
-    there_and_back(&image(5, 31 * IMAGE_SECTOR), &said);
+    let (image, filled) = (image(5, 31 * IMAGE_SECTOR), "filled up with 1 zero sector");
+    there_and_back(&image, &[filled], "blocks 2 sectors 32 ");
 }
 
 /// More blocks than any processor count, so that their order counts, and every length of the last block.
@@ -131,8 +137,9 @@ fn every_length_of_the_last_block() {
         let ended = folder
             .run("format image -o stream --first 030000 --info 25")
             .done();
-        assert_eq!(ended.lines().last(), Some(&"blocks 21 sectors 336"));
-        assert!(folder.read("stream") == run_of(&image, 0x03_0000, 0x25));
+        let (stream, record) = written(&image, 0x03_0000, 0x25);
+        assert_eq!(ended.lines().last(), Some(&&*said_of(record)));
+        assert!(folder.read("stream") == stream);
         folder
             .run(&format!("recover stream -o back --length {}", image.len()))
             .done();
@@ -154,8 +161,8 @@ fn large_image(folder: &Folder) {
     file.flush().unwrap();
 }
 
-/// Holds the stream of the large image to the library's writer.
-fn is_large_stream(folder: &Folder) {
+/// Holds the stream of the large image to the library's writer, whose last record this gives.
+fn is_large_stream(folder: &Folder) -> Record {
     let mut file = BufReader::new(File::open(folder.path("stream")).unwrap());
     let (mut due, mut got) = (vec![0; BLOCK_STREAM], vec![0; BLOCK_STREAM]);
     let mut writer = Writer::new();
@@ -168,24 +175,21 @@ fn is_large_stream(folder: &Folder) {
         assert!(got == due, "block {k}");
     }
     let mut due = [0; CLOSING];
-    writer.close(&mut due).unwrap();
+    writer = writer.close(&mut due).unwrap();
     let mut rest = Vec::new();
     file.read_to_end(&mut rest).unwrap();
     assert_eq!(rest, due);
+    writer.record()
 }
 
 #[test]
 fn sixty_four_megabytes() {
     let folder = Folder::new();
     large_image(&folder);
-    folder
-        .run("format image -o stream --first 030000")
-        .done()
-        .said(&[
-            "filled up with 14 zero sectors",
-            "blocks 1954 sectors 31264",
-        ]);
-    is_large_stream(&folder);
+    let ended = folder.run("format image -o stream --first 030000").done();
+    let last = said_of(is_large_stream(&folder));
+    assert!(last.starts_with("blocks 1954 sectors 31264 "), "{last}");
+    ended.said(&["filled up with 14 zero sectors", &last]);
 
     let summary = "blocks 1954 refused 0 rows 0 0 columns 0 0 unknown 0 sync 0";
     let recover = format!("recover stream -o back --length {LARGE}");

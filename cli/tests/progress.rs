@@ -2,7 +2,7 @@
 mod common;
 
 use chamanzil::MAIN;
-use common::streams::{image, run_of};
+use common::streams::{image, said_of, written};
 use common::{ended, Folder, CHAMANZIL};
 
 /// Blocks that take long enough for a bar to be drawn.
@@ -24,26 +24,21 @@ fn left_on_screen(shown: &str) -> Vec<&str> {
     lines.filter(|line| !line.is_empty()).collect()
 }
 
-/// Each long command, and its last line on standard error.
-const LONG: [(&str, &str); 4] = [
-    (
-        "format image -o out --first 030000",
-        "blocks 300 sectors 4800",
-    ),
-    (
-        "recover stream -o out",
-        "blocks 300 refused 0 rows 0 0 columns 0 0 unknown 0 sync 0",
-    ),
-    ("sheet stream", ""),
-    ("check stream", ""),
-];
-
 #[test]
 fn a_bar_on_a_terminal() {
     let image = image(150, BLOCKS * MAIN);
-    let stream = run_of(&image, 0x03_0000, 0);
+    let (stream, record) = written(&image, 0x03_0000, 0);
     let folder = Folder::with(&[("image", &image), ("stream", &stream)]);
-    for (line, last) in LONG {
+    let formatted = said_of(record);
+    let recovered = "blocks 300 refused 0 rows 0 0 columns 0 0 unknown 0 sync 0";
+    // each long command, and its last line on standard error
+    let long = [
+        ("format image -o out --first 030000", &*formatted),
+        ("recover stream -o out", recovered),
+        ("sheet stream", ""),
+        ("check stream", ""),
+    ];
+    for (line, last) in long {
         let ended = folder.run(line).done();
         let shown = on_a_terminal(&folder, line);
         // a bar is drawn over itself, by a return or by codes of the terminal

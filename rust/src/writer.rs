@@ -1,6 +1,6 @@
 use crate::{slices, Refusal, BLOCK_STREAM, CLOSING, MAIN, SECTOR, SECTOR_STREAM};
 
-/// The writer's record: the State prescribed next, the NRZI level, the DSV, the sectors of the run written, and whether the closing code is written.
+/// The writer's record: the State prescribed next, the NRZI level, the DSV, the sectors of the run written, whether the closing code is written, and the peak.
 /// It lies in memory as `crates/writer` and C have it.
 #[repr(C)]
 #[derive(Clone, Copy, Debug, PartialEq, Eq, Hash)]
@@ -15,6 +15,8 @@ pub struct Record {
     pub sectors: u32,
     /// Whether the closing code is written.
     pub closed: bool,
+    /// The greatest absolute DSV of the run at the end of any Sync Frame so far, 0 before the first. The closing code does not count.
+    pub peak: u64,
 }
 
 impl Record {
@@ -27,6 +29,7 @@ impl Record {
             dsv: 0,
             sectors: 0,
             closed: false,
+            peak: 0,
         }
     }
 }
@@ -153,6 +156,7 @@ impl Writer {
     /// assert_eq!(out, format_block(&main, 0x03_0000, 0)?[..BLOCK_STREAM]);
     /// let writer = writer.write_block(&main, 0x03_0010, 0, &mut out)?;
     /// assert_eq!(writer.record().sectors, 32);
+    /// assert!(writer.record().peak >= writer.record().dsv.unsigned_abs());
     /// # Ok::<(), Refusal>(())
     /// ```
     ///
@@ -184,7 +188,7 @@ impl Writer {
     /// assert!(writer.close(&mut out)?.record().closed);
     /// // from level ZERO the Primary takes 10 off the DSV, the Secondary adds 4: they tip at 3
     /// for (dsv, second_byte, after) in [(2, 0x04, 6), (3, 0x44, -7), (4, 0x44, -6)] {
-    ///     let writer = Writer::from_record(Record { dsv, sectors: 16, ..Record::new() }, None);
+    ///     let writer = Writer::from_record(Record { dsv, sectors: 16, peak: 4, ..Record::new() }, None);
     ///     assert_eq!(writer.close(&mut out)?.record().dsv, after);
     ///     assert_eq!(out, [0x12, second_byte, 0x00, 0x11]);
     /// }

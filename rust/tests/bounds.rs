@@ -296,12 +296,18 @@ fn closes(sectors: u32) -> bool {
 
 /// The papers' numbers 9 and 7 for so many sectors more, from the record alone.
 fn due(r: Record, count: u32) -> u8 {
-    let limit = 38_688 * i128::from(r.sectors) + if r.closed { 32 } else { 0 };
+    let (most, closing) = (
+        38_688 * i128::from(r.sectors),
+        if r.closed { 32 } else { 0 },
+    );
+    let (dsv, peak) = (i128::from(r.dsv).abs(), i128::from(r.peak));
     let sound = (1..=4).contains(&r.state)
         && r.level <= 1
         && r.sectors <= RUN_SECTORS
         && (!r.closed || closes(r.sectors))
-        && i128::from(r.dsv).abs() <= limit;
+        && dsv <= most + closing
+        && dsv <= peak + closing
+        && peak <= most;
     let fits = u64::from(r.sectors) + u64::from(count) <= u64::from(RUN_SECTORS);
     match (sound, r.closed || !fits) {
         (false, _) => 9,
@@ -336,6 +342,12 @@ fn any_record(numbers: &mut Numbers) -> Record {
         dsv,
         sectors,
         closed: numbers.below(4) == 0,
+        peak: match numbers.below(5) {
+            0 => dsv.unsigned_abs().saturating_sub(32),
+            1 => edge.unsigned_abs() + 1,
+            2 => numbers.next(),
+            _ => dsv.unsigned_abs(),
+        },
     }
 }
 

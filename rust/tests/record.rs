@@ -4,11 +4,12 @@ use std::mem::{align_of, offset_of, size_of};
 
 #[test]
 fn layout() {
-    assert_eq!((size_of::<Record>(), align_of::<Record>()), (24, 8));
+    assert_eq!((size_of::<Record>(), align_of::<Record>()), (32, 8));
     let small = (offset_of!(Record, state), offset_of!(Record, level));
     let large = (offset_of!(Record, dsv), offset_of!(Record, sectors));
     assert_eq!((small, large), ((0, 1), (8, 16)));
-    assert_eq!(offset_of!(Record, closed), 20);
+    let last = (offset_of!(Record, closed), offset_of!(Record, peak));
+    assert_eq!(last, (20, 24));
 }
 
 /// Whatever the old one was.
@@ -21,6 +22,7 @@ fn new_record() {
             dsv: i64::MIN,
             sectors: u32::MAX,
             closed,
+            peak: u64::MAX,
         };
         unsafe { raw::chamanzil_new_record(&mut record) };
         assert_eq!(record, Record::new());

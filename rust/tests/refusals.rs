@@ -458,7 +458,14 @@ fn record_9_by_dsv() {
     for sectors in [0, 1, 16, 48, RUN_SECTORS - 16, RUN_SECTORS] {
         let limit = 38_688 * i64::from(sectors);
         for sign in [1, -1] {
-            let with = |record: Record, dsv: i64| answers(Record { dsv, ..record });
+            let peak = limit.unsigned_abs();
+            let with = |record: Record, dsv: i64| {
+                answers(Record {
+                    dsv,
+                    peak,
+                    ..record
+                })
+            };
             assert_eq!(
                 with(open(sectors), sign * limit),
                 answers(open(sectors)),
@@ -480,6 +487,40 @@ fn record_9_by_dsv() {
             );
         }
     }
+}
+
+/// The peak that a record may hold: not below the absolute DSV, or by 32 after closing, and 38,688 a sector. Before the first sector it is 0.
+#[test]
+fn record_9_by_peak() {
+    for sectors in [16, 48, RUN_SECTORS - 16, RUN_SECTORS] {
+        let limit = 38_688 * u64::from(sectors);
+        for dsv in [0, 100, -100] {
+            let with = |record: Record, peak: u64| {
+                answers(Record {
+                    dsv,
+                    peak,
+                    ..record
+                })
+            };
+            let (free, size) = (answers(open(sectors)), dsv.unsigned_abs());
+            for peak in [size, size + 1, limit] {
+                assert_eq!(with(open(sectors), peak), free, "{sectors} {peak}");
+            }
+            for peak in [size.saturating_sub(32), size, limit] {
+                assert_eq!(with(closed(sectors), peak), [ENDED; 3]);
+            }
+            for peak in [limit + 1, u64::MAX] {
+                assert_eq!(with(open(sectors), peak), BAD, "{sectors} {peak}");
+                assert_eq!(with(closed(sectors), peak), BAD, "{sectors} {peak}");
+            }
+            if dsv != 0 {
+                assert_eq!(with(open(sectors), size - 1), BAD, "{sectors}");
+                assert_eq!(with(closed(sectors), size - 33), BAD, "{sectors}");
+            }
+        }
+    }
+    let peak = 1;
+    assert_eq!(answers(Record { peak, ..open(0) }), BAD);
 }
 
 #[test]

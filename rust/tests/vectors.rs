@@ -117,7 +117,7 @@ fn run_mains() -> Vec<[u8; MAIN]> {
         .collect()
 }
 
-/// The run's records after each sector and after closing: the first five words of a line (the others are of later requests).
+/// The run's records after each sector and after closing: all words of a line but the last, which is of a later request.
 fn run_records() -> Vec<Record> {
     let record = |line: &str| {
         let words: Vec<i64> = line
@@ -131,6 +131,7 @@ fn run_records() -> Vec<Record> {
             dsv: words[2],
             sectors: words[3].try_into().unwrap(),
             closed: words[4] == 1,
+            peak: words[5].try_into().unwrap(),
         }
     };
     let list = String::from_utf8(run("run.records")).unwrap();

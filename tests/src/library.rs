@@ -73,6 +73,7 @@ fn kept(r: &Record) -> chamanzil::Record {
         dsv: r.dsv,
         sectors: r.sectors,
         closed: r.closed,
+        peak: r.peak,
     }
 }
 
@@ -83,6 +84,7 @@ fn record_of(r: chamanzil::Record) -> Record {
         dsv: r.dsv,
         sectors: r.sectors,
         closed: r.closed,
+        peak: r.peak,
     }
 }
 

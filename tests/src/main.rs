@@ -1,4 +1,4 @@
-//! Compares the proved library with a second implementation, written from document 01 and ECMA-268. `tests/run` builds and runs it.
+//! Compares the proved library with a second implementation, written from documents 01 and 02 and ECMA-268. `tests/run` builds and runs it.
 mod block;
 mod blocks_test;
 mod codes_test;
@@ -13,6 +13,7 @@ mod report;
 mod rs;
 mod run;
 mod runs_test;
+mod session_test;
 mod tables;
 mod tidy;
 mod trial_data;
@@ -29,6 +30,7 @@ use tables::Tables;
 
 fn round(report: &mut Report, seed: u64) {
     vectors_test::all(report);
+    session_test::all(report);
     let mut random = Random::new(seed);
     codes_test::field(report, &mut random);
     codes_test::parities(report, &mut random, 2_000);
@@ -41,6 +43,7 @@ fn round(report: &mut Report, seed: u64) {
     writer_test::blocks(report, &mut random, &tables, 200);
     writer_test::sectors(report, &mut random, &tables, 2_000);
     writer_test::edges(report, &mut random, &tables);
+    writer_test::peaks_of_sectors(report, &mut random, &tables);
     writer_test::closings(report, &tables);
     writer_test::ends(report, &mut random, &tables);
     writer_test::refusals(report, &mut random, &tables, 20_000);

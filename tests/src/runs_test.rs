@@ -10,7 +10,7 @@ use crate::report::Report;
 use crate::run::{block_refusal, blocks_of, part, previous_of, write_block, Input, BLOCK_LAID};
 use crate::tables::Tables;
 use crate::vectors_test;
-use crate::writer_test::{odd_record, random_record, records_at_ends};
+use crate::writer_test::{odd_record, random_record, records_at_ends, records_by_peak};
 use crate::writing::{permitted_stream, write_run, Record, LAID, SECTOR};
 
 /// Blocks that follow on, from a random first number, or up to the last number there is.
@@ -151,7 +151,7 @@ pub fn refusals(report: &mut Report, random: &mut Random, t: &Tables, count: usi
 pub fn ends(report: &mut Report, random: &mut Random, t: &Tables) {
     report.begin("runs: a whole block at the ends of a run");
     let inputs = random_inputs(random, 2);
-    for record in records_at_ends() {
+    for record in records_at_ends().into_iter().chain(records_by_peak()) {
         compare_block(report, t, record, Some(inputs[0].first), &inputs[1], BLOCK_LAID);
     }
     report.end();

@@ -9,7 +9,7 @@ use crate::writing::{close, write_sector, Closing, FrameTrace, Record, LAID, RUN
 use std::collections::BTreeMap;
 
 /// One sector from a record, by both; what the second implementation did.
-fn compare_sector(report: &mut Report, t: &Tables, record: Record, bytes: &[u8]) -> (Record, Vec<FrameTrace>) {
+pub fn compare_sector(report: &mut Report, t: &Tables, record: Record, bytes: &[u8]) -> (Record, Vec<FrameTrace>) {
     let mut out = vec![0xA5; LAID];
     let mut ours = record;
     let answer = library::write_sector(&mut ours, bytes, &mut out);
@@ -36,8 +36,8 @@ pub fn blocks(report: &mut Report, random: &mut Random, t: &Tables, count: usize
     report.end();
 }
 
-/// The closing code after a record, by both.
-fn compare_closing(report: &mut Report, t: &Tables, record: Record) -> Closing {
+/// The closing code after a record, by both; the record then.
+pub fn compare_closing(report: &mut Report, t: &Tables, record: Record) -> (Record, Closing) {
     let (mut ours, mut theirs) = (record, record);
     let mut out = [0xA5; 4];
     let answer = library::close(&mut ours, &mut out);
@@ -45,7 +45,7 @@ fn compare_closing(report: &mut Report, t: &Tables, record: Record) -> Closing {
     report.check(answer == 0 && ours == theirs && out[..] == closing.code, || {
         format!("closing {record:?}: {answer}, {out:02X?}, {ours:?} for {theirs:?}")
     });
-    closing
+    (theirs, closing)
 }
 
 /// Records that a run may be closed from, in every State and at both levels, with the DSVs around the point where the choice of the code tips.
@@ -64,7 +64,7 @@ pub fn closings(report: &mut Report, t: &Tables) {
     report.begin("writer: closing codes by DSV");
     let mut written = BTreeMap::new();
     for record in records_before_closing() {
-        let closing = compare_closing(report, t, record);
+        let (_, closing) = compare_closing(report, t, record);
         let is_equal = closing.dsvs[0].abs() == closing.dsvs[1].abs();
         *written.entry((closing.code, is_equal)).or_insert(0) += 1;
     }
@@ -95,9 +95,16 @@ pub fn random_record(random: &mut Random) -> Record {
         2 => 100 + random.below(2_000) as u64,
         _ => random.next() % (limit + 1),
     };
-    let size = size.min(limit) as i64;
+    let size = size.min(limit);
+    // the peak as low as the DSV lets it be, a little higher, or anywhere
+    let peak = match random.below(3) {
+        0 => size,
+        1 => (size + random.below(100) as u64).min(limit),
+        _ => size + random.next() % (limit - size + 1),
+    };
     let (state, level) = (1 + random.below(4) as u8, random.below(2) as u8);
-    Record::open(state, level, if random.coin() { size } else { -size }, sectors)
+    let dsv = if random.coin() { size as i64 } else { -(size as i64) };
+    Record { peak, ..Record::open(state, level, dsv, sectors) }
 }
 
 /// Bytes that lean to one side of the DSV keep it far out; few different bytes, or all of them.
@@ -122,11 +129,48 @@ pub fn sectors(report: &mut Report, random: &mut Random, t: &Tables, count: usiz
     report.end();
 }
 
-type Test = fn(&FrameTrace) -> bool;
+/// A sector that was written: the records before and after it, and its frames.
+struct Written {
+    before: Record,
+    after: Record,
+    frames: Vec<FrameTrace>,
+}
 
-/// The rule at 63 and -64, which random blocks never reach: each edge and each outcome is searched for until a few sectors have it.
+impl Written {
+    /// The sector has a new peak.
+    fn is_higher(&self) -> bool {
+        self.after.peak > self.before.peak
+    }
+
+    /// The DSV after the sector is lower than its peak.
+    fn is_lower_at_end(&self) -> bool {
+        self.after.dsv.unsigned_abs() < self.after.peak
+    }
+}
+
+/// Random sectors from random records, until three pass a test: each of these by both.
+fn search(report: &mut Report, random: &mut Random, t: &Tables, name: &str, test: impl Fn(&Written) -> bool) {
+    report.begin(&format!("writer: {name}"));
+    let mut found = 0;
+    for _ in 0..100_000 {
+        let (before, bytes) = (random_record(random), random_sector(random));
+        let mut after = before;
+        let (_, frames) = write_sector(t, &mut after, &bytes);
+        if test(&Written { before, after, frames }) {
+            compare_sector(report, t, before, &bytes);
+            found += 1;
+        }
+        if found == 3 {
+            break;
+        }
+    }
+    report.check(found == 3, || "not reached".into());
+    report.end();
+}
+
+/// The rule at 63 and -64, which random blocks never reach: each edge and each outcome.
 pub fn edges(report: &mut Report, random: &mut Random, t: &Tables) {
-    let wanted: [(&str, Test); 7] = [
+    let wanted: [(&str, fn(&FrameTrace) -> bool); 7] = [
         ("DSV 63, not tried", |f| f.dsv_kept_and_other[0] == 63 && !f.tried),
         ("DSV -64, not tried", |f| f.dsv_kept_and_other[0] == -64 && !f.tried),
         ("DSV 64, tried", |f| f.dsv_kept_and_other[0] == 64 && f.tried),
@@ -136,20 +180,29 @@ pub fn edges(report: &mut Report, random: &mut Random, t: &Tables) {
         ("the other SYNC Code tried in vain", |f| f.tried && !f.changed),
     ];
     for (name, test) in wanted {
-        report.begin(&format!("writer: {name}"));
-        let mut found = 0;
-        for _ in 0..100_000 {
-            let (record, bytes) = (random_record(random), random_sector(random));
-            if write_sector(t, &mut record.clone(), &bytes).1.iter().any(test) {
-                compare_sector(report, t, record, &bytes);
-                found += 1;
-            }
-            if found == 3 {
-                break;
-            }
-        }
-        report.check(found == 3, || "not reached".into());
-        report.end();
+        search(report, random, t, name, |w| w.frames.iter().any(test));
+    }
+}
+
+/// Where the peak of a sector comes from, also where a DSV that is not the written stream's is higher.
+pub fn peaks_of_sectors(report: &mut Report, random: &mut Random, t: &Tables) {
+    let wanted: [(&str, fn(&Written) -> bool); 6] = [
+        ("the peak held from before", |w| !w.is_higher() && w.is_lower_at_end()),
+        ("the peak at the sector's end", |w| w.is_higher() && !w.is_lower_at_end()),
+        ("the peak at the end of another frame", |w| w.is_higher() && w.is_lower_at_end()),
+        ("the peak after a change of the SYNC Code", |w| {
+            let is_there = |f: &FrameTrace| f.changed && f.dsv_kept_and_other[1].unsigned_abs() == w.after.peak;
+            w.is_higher() && w.frames.iter().any(is_there)
+        }),
+        ("the peak below a DSV before such a change", |w| {
+            w.frames.iter().any(|f| f.changed && f.dsv_kept_and_other[0].unsigned_abs() > w.after.peak)
+        }),
+        ("the peak below a DSV of the stream not shown", |w| {
+            w.frames.iter().any(|f| f.dsvs[2 - f.shown].unsigned_abs() > w.after.peak)
+        }),
+    ];
+    for (name, test) in wanted {
+        search(report, random, t, name, test);
     }
 }
 
@@ -164,6 +217,13 @@ fn limits(sectors: u32) -> [i64; 6] {
     [0, limit, limit + 1, limit + 32, limit + 33, i64::MAX]
 }
 
+/// Peaks at the limits of a record's DSV and count, within and beyond them.
+fn peaks(dsv: i64, sectors: u32) -> [u64; 9] {
+    let (size, limit) = (dsv.unsigned_abs(), 38_688 * sectors as u64);
+    let below = |by| size.saturating_sub(by);
+    [below(33), below(32), below(1), size, size.saturating_add(1), limit.saturating_sub(1), limit, limit + 1, u64::MAX]
+}
+
 /// A record in or out of range.
 pub fn odd_record(random: &mut Random) -> Record {
     let sectors = match random.below(3) {
@@ -171,22 +231,39 @@ pub fn odd_record(random: &mut Random) -> Record {
         _ => COUNTS[random.below(COUNTS.len())],
     };
     let dsv = limits(sectors)[random.below(6)];
+    let dsv = if random.coin() { dsv } else { -dsv - random.below(2) as i64 };
     Record {
         state: [1, 2, 3, 4, 0, 5][random.below(6)],
         level: random.below(3) as u8,
-        dsv: if random.coin() { dsv } else { -dsv - random.below(2) as i64 },
+        dsv,
         sectors,
         closed: random.coin(),
+        peak: peaks(dsv, sectors)[[0, 1, 2, 3, 3, 3, 4, 6, 7][random.below(9)]],
     }
 }
 
-/// Every one of the counts with each of its limits, open and closed, in sound States and levels and in others.
+/// Every one of the counts with each of its limits, open and closed, in sound States and levels and in others. The peak is the absolute DSV, as far as 9 lets it be.
 pub fn records_at_ends() -> Vec<Record> {
     let mut records = Vec::new();
     for sectors in COUNTS {
         for dsv in limits(sectors).into_iter().flat_map(|dsv| [dsv, -dsv]) {
+            let peak = dsv.unsigned_abs().min(38_688 * sectors as u64);
             for (state, level) in [(1, 0), (2, 1), (3, 1), (4, 0), (0, 0), (5, 1), (1, 2)] {
-                records.extend([false, true].map(|closed| Record { state, level, dsv, sectors, closed }));
+                records.extend([false, true].map(|closed| Record { state, level, dsv, sectors, closed, peak }));
+            }
+        }
+    }
+    records
+}
+
+/// Records with every peak at the limits that 9 has for it, open and closed.
+pub fn records_by_peak() -> Vec<Record> {
+    let mut records = Vec::new();
+    for sectors in [0, 1, 16, 32, 16_777_200, 16_777_215, 16_777_216] {
+        let limit = 38_688 * sectors as i64;
+        for dsv in [0, 1, -31, -32, 33, 100, limit - 40, limit, -limit, limit + 32] {
+            for peak in peaks(dsv, sectors) {
+                records.extend([false, true].map(|closed| Record { closed, peak, ..Record::open(1, 0, dsv, sectors) }));
             }
         }
     }
@@ -197,7 +274,7 @@ pub fn records_at_ends() -> Vec<Record> {
 pub fn ends(report: &mut Report, random: &mut Random, t: &Tables) {
     report.begin("writer: records at the ends of a run");
     let bytes = random_sector(random);
-    for record in records_at_ends() {
+    for record in records_at_ends().into_iter().chain(records_by_peak()) {
         end(report, t, record, &bytes);
     }
     report.end();
@@ -215,7 +292,7 @@ fn end(report: &mut Report, t: &Tables, record: Record, bytes: &[u8]) {
 }
 
 /// A refused sector leaves record and buffer.
-fn sector_refused(report: &mut Report, record: Record, bytes: &[u8], to: usize, due: u32) {
+pub fn sector_refused(report: &mut Report, record: Record, bytes: &[u8], to: usize, due: u32) {
     let (mut ours, mut out) = (record, vec![0xA5; to]);
     let answer = library::write_sector(&mut ours, bytes, &mut out);
     let is_left = ours == record && out.iter().all(|&b| b == 0xA5);
@@ -223,7 +300,7 @@ fn sector_refused(report: &mut Report, record: Record, bytes: &[u8], to: usize, 
 }
 
 /// A refused closing likewise.
-fn closing_refused(report: &mut Report, record: Record, to: usize, due: u32) {
+pub fn closing_refused(report: &mut Report, record: Record, to: usize, due: u32) {
     let (mut ours, mut out) = (record, vec![0xA5; to]);
     let answer = library::close(&mut ours, &mut out);
     let is_left = ours == record && out.iter().all(|&b| b == 0xA5);

@@ -15,6 +15,8 @@ pub struct Record {
     pub dsv: i64,
     pub sectors: u32,
     pub closed: bool,
+    /// The greatest absolute DSV at the end of any Sync Frame so far (document 02, request 4).
+    pub peak: u64,
 }
 
 impl Record {
@@ -22,9 +24,9 @@ impl Record {
         Record::open(1, 0, 0, 0)
     }
 
-    /// A record before closing.
+    /// A record before closing, with the lowest peak that goes with its DSV.
     pub fn open(state: u8, level: u8, dsv: i64, sectors: u32) -> Record {
-        Record { state, level, dsv, sectors, closed: false }
+        Record { state, level, dsv, sectors, closed: false, peak: dsv.unsigned_abs() }
     }
 
     /// Whether a run may be closed here: after the last sector of a block.
@@ -34,12 +36,16 @@ impl Record {
 
     /// Refusal 9.
     pub fn is_bad(&self) -> bool {
-        let room = 38_688 * self.sectors as i128 + if self.closed { 32 } else { 0 };
+        let most = 38_688 * self.sectors as i128;
+        let (dsv, peak) = ((self.dsv as i128).abs(), self.peak as i128);
+        let closing = if self.closed { 32 } else { 0 };
         !(1..=4).contains(&self.state)
             || self.level > 1
             || self.sectors > RUN_SECTORS
             || (self.closed && !self.is_between_blocks())
-            || (self.dsv as i128).abs() > room
+            || dsv > most + closing
+            || peak < dsv - closing
+            || peak > most
     }
 
     /// Refusals 9 and 7 of a call that writes so many sectors.
@@ -209,12 +215,29 @@ fn packed(halves: &[u16]) -> Vec<u8> {
     halves.iter().flat_map(|h| h.to_be_bytes()).collect()
 }
 
+/// The greatest of the absolute DSVs at the ends of a stream's Sync Frames, 186 bytes each, and of what the record before them held (document 02, request 4):
+/// counted over the bits as they were written.
+fn peak_after(before: &Record, stream: &[u8]) -> u64 {
+    let (mut level, mut dsv, mut peak) = (before.level, before.dsv, before.peak);
+    for frame in stream.chunks(186) {
+        for bit in frame.iter().flat_map(|byte| (0..8).rev().map(move |n| byte >> n & 1)) {
+            level ^= bit;
+            dsv += if level == 1 { 1 } else { -1 };
+        }
+        peak = peak.max(dsv.unsigned_abs());
+    }
+    peak
+}
+
 pub fn write_sector(t: &Tables, record: &mut Record, bytes: &[u8]) -> (Vec<u8>, Vec<FrameTrace>) {
+    let before = *record;
     let mut halves = Vec::new();
     let frames = bytes.chunks(91).zip(sync_numbers());
     let traces = frames.map(|(part, code)| frame(t, record, code, part, &mut halves)).collect();
+    let stream = packed(&halves);
     record.sectors += 1;
-    (packed(&halves), traces)
+    record.peak = peak_after(&before, &stream);
+    (stream, traces)
 }
 
 /// How a run was closed.
@@ -224,7 +247,7 @@ pub struct Closing {
     pub dsvs: [i64; 2],
 }
 
-/// The SY0 of the prescribed class with the lower absolute DSV, the Primary where both are equal (document 02, request 7).
+/// The SY0 of the prescribed class with the lower absolute DSV, the Primary where both are equal (document 02, request 7). It does not count towards the peak.
 pub fn close(t: &Tables, record: &mut Record) -> Closing {
     let [primary, secondary] = t.codes(record.state, 0).map(|first| {
         let mut stream = Stream::after(record);

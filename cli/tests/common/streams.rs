@@ -1,5 +1,6 @@
-//! Images and streams: what the library's writer makes of an image (`run_of`), and runs of blocks that the block maker would not make (`edited`, `run_of_blocks`).
-use chamanzil::{column_parity, encode_block, ied, row_parity, Writer};
+//! Images and streams: what the library's writer makes of an image (`run_of`, `written`) and what is said of it (`said_of`), and runs of blocks that the block
+//! maker would not make (`edited`, `run_of_blocks`).
+use chamanzil::{column_parity, encode_block, ied, row_parity, Record, Writer};
 use chamanzil::{
     BLOCK, BLOCK_STREAM, CLOSING, COLUMN_DATA, MAIN, ROW, ROW_DATA, SECTOR, SECTOR_STREAM, STREAM,
 };
@@ -58,6 +59,20 @@ pub fn zero_filled(image: &[u8]) -> Vec<u8> {
 
 /// The stream that the library's writer makes of an image of whole sectors.
 pub fn run_of(image: &[u8], first: u32, info: u8) -> Vec<u8> {
+    written(image, first, info).0
+}
+
+/// What is said of a run that was written: the last line of `format`.
+pub fn said_of(record: Record) -> String {
+    let Record {
+        sectors, dsv, peak, ..
+    } = record;
+    let blocks = sectors / 16;
+    format!("blocks {blocks} sectors {sectors} dsv {dsv} peak {peak}")
+}
+
+/// The stream that the library's writer makes of an image of whole sectors, and the record after closing.
+pub fn written(image: &[u8], first: u32, info: u8) -> (Vec<u8>, Record) {
     let filled = zero_filled(image);
     let mut stream = vec![0; filled.len() / MAIN * BLOCK_STREAM + CLOSING];
     let mut writer = Writer::new();
@@ -70,15 +85,16 @@ pub fn run_of(image: &[u8], first: u32, info: u8) -> Vec<u8> {
         writer = writer.write_block(main, number, info, out).unwrap();
         number += 16;
     }
-    close(writer, &mut stream);
-    stream
+    let record = close(writer, &mut stream);
+    (stream, record)
 }
 
-fn close(writer: Writer, stream: &mut [u8]) {
+fn close(writer: Writer, stream: &mut [u8]) -> Record {
     let closing = stream.len() - CLOSING;
     writer
         .close((&mut stream[closing..]).try_into().unwrap())
-        .unwrap();
+        .unwrap()
+        .record()
 }
 
 /// The bytes from which block k of a run is read.

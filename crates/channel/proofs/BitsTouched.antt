@@ -12,7 +12,7 @@ use lib.ListN.{length, getD}
 use Rattle.lists.specs.Bytes.{Bytes}
 use Rattle.lists.specs.Test.{every}
 use Rattle.lists.proofs.Bytes.{getD-byte}
-use Rattle.lists.proofs.Test.{and-left, and-right}
+use Rattle.lists.proofs.Test.{and-left, and-right, or-none}
 use Rattle.annexg.specs.Read.{State}
 use Rattle.annexg.specs.Sync.{syncTable, codeFor}
 use Rattle.annexg.proofs.Figure.{entry-below}
@@ -25,18 +25,14 @@ use Rattle.channel.specs.Channel.{Item, sync, byte, nextFor, lastFor, al
 use Rattle.channel.proofs.Damage.{sameMarks, disturbed}
 use Rattle.channel.proofs.Entries.{Taken, taken, taken-next}
 
-either-none : (a b : Bool) → (a || b) ≡ false → (a ≡ false) × (b ≡ false)
-either-none true b e = let z : b ≡ false = absurd (subst T e tt) in (e, z)
-either-none false b e = (refl, e)
-
 none-at : (t : ℕ → Bool) (k n : ℕ) → someFrom t k n ≡ false → (j : ℕ) → j < n → t (k + j) ≡ false
 none-at t k zero e j h = absurd (not-suc-le-zero h)
 none-at t k (suc n) e zero h =
     let m : k + 0 ≡ k = omega arith in
-    rw m (either-none (t k) (someFrom t (suc k) n) e .0)
+    rw m (or-none (t k) (someFrom t (suc k) n) e .0)
 none-at t k (suc n) e (suc j) h =
     let m : k + suc j ≡ suc k + j = omega arith in
-    rw m (none-at t (suc k) n (either-none (t k) (someFrom t (suc k) n) e .1) j (le-of-suc-le-suc h))
+    rw m (none-at t (suc k) n (or-none (t k) (someFrom t (suc k) n) e .1) j (le-of-suc-le-suc h))
 
 kept : (ys xs : List ℕ) (j : ℕ) → changed ys xs j ≡ false → bitAt xs j ≡ bitAt ys j
 unfolding changed
@@ -76,8 +72,8 @@ unfolding touched disturbed
 bits-touched ys xs by bx i e =
     let k = halfOf i in
     let t = changed ys xs in
-    let two = either-none (someFrom t (16 * k) 16) (t (16 * k + 16) || t (16 * k + 28)) e in
-    let marks = either-none (t (16 * k + 16)) (t (16 * k + 28)) (two .1) in
+    let two = or-none (someFrom t (16 * k) 16) (t (16 * k + 16) || t (16 * k + 28)) e in
+    let marks = or-none (t (16 * k + 16)) (t (16 * k + 28)) (two .1) in
     let own = none-at t (16 * k) 16 (two .0) in
     ap not (and-true (eqb (halfAt xs k) (halfAt ys k)) (sameMarks (halfAt xs (k + 1)) (halfAt ys (k + 1)))
     (eq-eqb (halfAt xs k) (halfAt ys k) (word k own)) (both-marks k (marks .0) (marks .1)))

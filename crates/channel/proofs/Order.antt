@@ -1,7 +1,7 @@
 -- The order of the SYNC Codes in a sector, and which choices and zero runs are refused: what the definitions say, held against document 01's words.
 -- Assumes nothing.
 use mathlib.Core.Path.{_≡_, refl, ap, _∙_}
-use mathlib.Core.Bool.{Bool, true, false, _&&_}
+use mathlib.Core.Bool.{Bool, true, false}
 use mathlib.Core.List.{List, [], _∷_, _++_, map, append-assoc}
 use Prim.Native.Nat.{ℕ, zero, suc, _+_, _*_, _-_, _/_, _%_, _<_, _≤_}
 use native.Mathlib.Nat.{not-suc-le-zero, le-of-suc-le-suc}
@@ -9,6 +9,7 @@ use native.Mathlib.Omega.{arith}
 use borrow.Author.Tests.{ne-eqb, le-ltb, lt-ltb}
 use lib.Dec.{eqb}
 use lib.ListN.{length, getD, take, drop, replicate}
+use Rattle.lists.proofs.Test.{and-false}
 use Rattle.annexg.specs.Read.{entryOf, wordOf}
 use Rattle.annexg.specs.ZeroRuns.{inside}
 use Rattle.layout.specs.Lengths.{frameBytes, frameBits}
@@ -92,11 +93,7 @@ fourteen-refused is i = refl
 
 -- thirteen anywhere but after the fourteenth bit of a SYNC Code
 pub thirteen-refused : (is : List Item) (i : ℕ) → syncHalf is (i / 16) ≡ false → zeroRunFits is i 13 ≡ false
-thirteen-refused is i h = rw h (none (eqb (i % 16) 13))
-  where
-    none : (b : Bool) → (b && false) ≡ false
-    none true = refl
-    none false = refl
+thirteen-refused is i h = rw h (and-false (eqb (i % 16) 13))
 
 pub thirteen-off : (is : List Item) (i : ℕ) → (i % 16 ≡ 13 → ⊥) → zeroRunFits is i 13 ≡ false
 thirteen-off is i h = rw (ne-eqb (i % 16) 13 h) refl

@@ -23,11 +23,12 @@ use Rattle.streams.specs.Frames.{sectorsOf, closingOf, runOf}
 use Rattle.streams.specs.Streams.{Stream}
 use Rattle.writer.specs.Answers.{answerNumber, sound, ended, blockRefusal, closingOut}
 use Rattle.writer.specs.Session.{runCalls}
-use Rattle.writer.specs.Records.{start, runningOf, afterBlock}
+use Rattle.writer.specs.Records.{start, runningOf, peakAfter, afterBlock}
 use Rattle.writer.specs.declared.Answer.{Answer}
 use Rattle.writer.specs.declared.Answer.the-variants.{Done, LengthRefused, RunEnded, RunUnfinished, BadRecord}
 use Rattle.writer.specs.declared.Record.{Record}
-use Rattle.writer.proofs.Calls.{BlockWritten, block-written, running-record, begins-start, begins-open, begins-more, closing-going}
+use Rattle.writer.proofs.Calls.{running-record}
+use Rattle.writer.proofs.Runs.{BlockWritten, block-written, begins-start, begins-open, begins-more, closing-going}
 use Rattle.writer.proofs.Sound.{Open}
 use Rattle.formatter.specs.Formatter.{writeBlockRefusal, writeBlockNext, writeBlockOut, blockStream, formatRefusal, formattedBuffer}
 use Rattle.formatter.specs.Inner.{sectorRoom, recordNumber, madeRefusal, firstLaid}
@@ -205,7 +206,7 @@ module _ (main : List ℕ) (first info : ℕ) (old : List ℕ) where
           let rest = drop sectorsStream old in
           ap₂ closingOut next-is end-part
           ∙ closing-going (afterBlock start made) (λ j k. []) rest (begins-more (begins-start 1 (omega arith) (omega arith)) wrote) rest-length .stream
-          ∙ ap (λ (r : Running). packed (closingOf r .halves)) (running-record (sectors .running) sectorCount false)
+          ∙ ap (λ (r : Running). packed (closingOf r .halves)) (running-record (sectors .running) (peakAfter start sectors sectorCount) sectorCount false)
 
       -- the closing code after the sectors
       pub first-closed :

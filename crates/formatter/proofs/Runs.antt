@@ -1,11 +1,12 @@
 -- The blocks of an accepted run one after the other, and closing: they are the writer's calls over the same blocks (as-sectors), so that none is refused and their
 -- buffers hold a permitted stream of the run (run-formatted). Each block is of 37,856 bytes (accepted-blocks). And a record that a block hands back is one that the
--- writer hands back, so that it is never refused with 9 (block-handed).
+-- writer hands back, so that it is never refused with 9 (block-handed), and its peak is not lower (block-peak-never-falls).
 -- Assumes nothing.
 use mathlib.Core.Bool.{Bool, true, false, cond}
 use mathlib.Core.List.{List, [], _∷_, _++_}
 use mathlib.Core.Path.{_≡_, refl, sym, ap, ap₂, subst, _∙_}
-use Prim.Native.Nat.{ℕ, suc, _+_, _*_, _<_}
+use Prim.Native.Nat.{ℕ, suc, _+_, _*_, _<_, _≤_}
+use native.Mathlib.Nat.{le-max-left}
 use native.Mathlib.Omega.{arith}
 use borrow.Author.Tests.{eq-eqb, eqb-true}
 use lib.Dec.{T, eqb}
@@ -20,11 +21,11 @@ use Rattle.eccblock.specs.declared.Previous.{Previous}
 use Rattle.eccblock.specs.declared.Previous.the-variants.{None, First}
 use Rattle.eccblock.proofs.Laws.{block-length, block-bytes}
 use Rattle.eccblock.proofs.Runs.{run-length-fits}
-use Rattle.streams.specs.Frames.{runOf, choicesOf}
-use Rattle.writer.specs.Records.{start, runningOf, recordOf, afterBlock}
+use Rattle.streams.specs.Frames.{choicesOf}
+use Rattle.writer.specs.Records.{start, runningOf, afterBlock, afterRun}
 use Rattle.writer.specs.Session.{Session, runCalls, NoneRefused, Handed}
 use Rattle.writer.specs.declared.Record.{Record}
-use Rattle.writer.proofs.Calls.{handed-calls, Begins, begins-start, begins-open, begins-more, closing-going, run-written}
+use Rattle.writer.proofs.Runs.{handed-calls, Begins, begins-start, begins-open, begins-more, closing-going, run-written}
 use Rattle.writer.proofs.Sound.{Open, block-opens, open-taken}
 use Rattle.formatter.specs.Formatter.{writeBlockRefusal, writeBlockNext}
 use Rattle.formatter.specs.Inner.{sectorRoom, madeRefusal}
@@ -95,7 +96,7 @@ pub record RunFormatted (is : List BlockInput) (outs : ℕ → List ℕ) (end : 
   pub refusals : BlocksTaken start None is outs end
   pub choices : T (permittedRun (runBlocks is) (choicesOf (runningOf start) (runBlocks is)))
   pub stream : blockCalls start None is outs end .bytes ≡ runStream (runBlocks is) (choicesOf (runningOf start) (runBlocks is))
-  pub next : blockCalls start None is outs end .next ≡ recordOf (runOf (runningOf start) (runBlocks is) .running) (sectorCount * length is) true
+  pub next : blockCalls start None is outs end .next ≡ afterRun start (runBlocks is)
 
 -- A RUN FORMATTED: every accepted run of at least one block
 pub run-formatted :
@@ -113,10 +114,7 @@ run-formatted is outs end some ok ho l =
       refusals = a .refusals;
       choices = w .choices;
       stream = ap (λ (s : Session). s .bytes) (a .same) ∙ w .stream;
-      next =
-          ap (λ (s : Session). s .next) (a .same)
-          ∙ w .next
-          ∙ ap (λ (x : ℕ). recordOf (runOf (runningOf start) run .running) (sectorCount * x) true) n;
+      next = ap (λ (s : Session). s .next) (a .same) ∙ w .next;
     }
 
 -- ---- the record
@@ -150,3 +148,13 @@ block-handed w previous main first info m h hm hi = by (eqb refusal 0) refl
     by : (b : Bool) → eqb refusal 0 ≡ b → Handed (cond b (afterBlock w made) w)
     by true e = written (eqb-true refusal 0 e)
     by false e = h
+
+-- the peak never falls, whether the block is refused or not
+pub block-peak-never-falls :
+    (w : Record) (previous : Previous) (main : List ℕ) (first info m : ℕ) → w .peak ≤ writeBlockNext w previous main first info m .peak
+unfolding writeBlockNext
+block-peak-never-falls w previous main first info m = by (eqb (writeBlockRefusal w previous (length main) m first info) 0)
+  where
+    by : (b : Bool) → w .peak ≤ cond b (afterBlock w (block main first info)) w .peak
+    by true = le-max-left (w .peak) _
+    by false = omega arith

@@ -23,6 +23,10 @@ pub and-both : (a b : Bool) → T a → T b → T (a && b)
 and-both true b t u = u
 and-both false b t u = t
 
+pub and-false : (a : Bool) → a && false ≡ false
+and-false true = refl
+and-false false = refl
+
 pub truth : (b : Bool) → T b → b ≡ true
 truth true t = refl
 truth false t = absurd t
@@ -72,6 +76,11 @@ or-left false b t = absurd t
 pub or-right : (a b : Bool) → T b → T (a || b)
 or-right true b t = tt
 or-right false b t = t
+
+-- neither does
+pub or-none : (a b : Bool) → (a || b) ≡ false → (a ≡ false) × (b ≡ false)
+or-none true b e = absurd (false≢true (sym e))
+or-none false b e = (refl, e)
 
 -- a test that is asked only where another passes
 pub implied : (a b : Bool) → T a → T (cond a b true) → T b

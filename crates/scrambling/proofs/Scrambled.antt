@@ -11,7 +11,7 @@ use lib.ListN.{length, getD}
 use lib.Seq.{ext-getD}
 use Rattle.lists.specs.Test.{below}
 use Rattle.lists.specs.Bytes.{Bytes}
-use Rattle.lists.proofs.Test.{below-at}
+use Rattle.lists.proofs.Test.{below-at, and-false}
 use Rattle.lists.proofs.Fill.{length-tabulate, getD-tabulate, Upto}
 use Rattle.lists.proofs.Bytes.{getD-byte, tabulate-bytes}
 use Rattle.field.specs.Field.{add}
@@ -49,10 +49,6 @@ pub scrambled-main : (n : ℕ) (f : List ℕ) (q : ℕ) → headSize ≤ q → q
     → scrambledAt n f q ≡ add (getD f q 0) (scramblingByte (presetOf n) (q - headSize))
 unfolding scrambledAt
 scrambled-main n f q h l = rw (le-leb headSize q h, lt-ltb q edcPlace l)
-
-and-false : (b : Bool) → (b && false) ≡ false
-and-false true = refl
-and-false false = refl
 
 pub scrambled-end : (n : ℕ) (f : List ℕ) (q : ℕ) → edcPlace ≤ q → scrambledAt n f q ≡ getD f q 0
 unfolding scrambledAt

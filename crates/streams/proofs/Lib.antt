@@ -3,3 +3,4 @@ pub mod Frames
 pub mod Range
 pub mod Shown
 pub mod Closing
+pub mod Peak

@@ -1,3 +1,4 @@
 pub mod Streams
 pub mod Frames
+pub mod Peak
 pub mod Inner

@@ -12,7 +12,7 @@
 -- The definitions it is stated over, and the functions whose contracts cite them:
 --   Accepted, block; AcceptedRun, runBlocks  eccblock/specs/Encode, Block;   eccblock::encode_block
 --                                            Run
---   permittedRun, runStream                  channel/specs/Block             the writer's are among them: run-written (writer/proofs/Calls)
+--   permittedRun, runStream                  channel/specs/Block             the writer's are among them: run-written (writer/proofs/Runs)
 --   blockPart, runSize                       layout/specs/Sectors            block k of a run's stream, and how long the stream is
 --   heavyRows (touched, changed)             channel/specs/Block             the damage, which no function knows
 --   bitsBytes, blockZeroRunFits              channel/specs/Bits              the zero runs, which no call of this theorem tests

@@ -341,13 +341,26 @@ fn answer_number(a: Answer) -> u64 {
     }
 }
 
+// The lowest peak that number 9 lets a DSV of this size have.
+fn lowest_peak(size: u64, closed: bool) -> u64 {
+    if !closed {
+        return size;
+    }
+    if size < 32 {
+        return 0;
+    }
+    size - 32
+}
+
 fn record(state: u8, level: u8, dsv: i64, sectors: u32, closed: bool) -> Record {
+    let peak = lowest_peak(signed::absolute(dsv), closed);
     Record {
         state,
         level,
         dsv,
         sectors,
         closed,
+        peak,
     }
 }
 
@@ -361,6 +374,7 @@ fn print_record(w: Record) {
 fn print_sectors(w: Record) {
     print_record(w);
     say(b" sectors ", w.sectors as u64);
+    say(b" peak ", w.peak);
 }
 
 fn written_blocks() {
@@ -590,6 +604,7 @@ fn refused_records() {
     record_case(record(2, 1, 0, 32, false));
     record_case(record(1, 0, 0, 32, true));
     run_end_cases();
+    peak_cases();
 }
 
 // The most that a run can have: 16,777,216 sectors, and 38,688 times as much of DSV.
@@ -601,6 +616,32 @@ fn run_end_cases() {
     record_case(record(1, 0, -649076932641, RUN_SECTORS, true));
     record_case(record(1, 0, 0, 16777217, false));
     record_case(record(1, 0, 0, 16777232, true));
+}
+
+// Number 9 by the peak: below the absolute DSV, by more than 32 in a closed record, and over 38,688 times the sectors.
+fn peak_cases() {
+    record_case(peaked(-100, 1, false, 100));
+    record_case(peaked(-100, 1, false, 99));
+    record_case(peaked(100, 16, true, 68));
+    record_case(peaked(100, 16, true, 67));
+    record_case(peaked(0, 1, false, 38688));
+    record_case(peaked(0, 1, false, 38689));
+    record_case(peaked(0, 0, false, 1));
+    record_case(peaked(0, RUN_SECTORS, false, 649076932608));
+    record_case(peaked(0, RUN_SECTORS, false, 649076932609));
+    record_case(peaked(0, RUN_SECTORS, true, 18446744073709551615));
+}
+
+// In State 1 at level 0.
+fn peaked(dsv: i64, sectors: u32, closed: bool, peak: u64) -> Record {
+    Record {
+        state: 1,
+        level: 0,
+        dsv,
+        sectors,
+        closed,
+        peak,
+    }
 }
 
 fn record_case(w: Record) {

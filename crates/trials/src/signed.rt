@@ -18,12 +18,18 @@ fn lifted(d: i64) -> u64
     0
 }
 
-pub(crate) fn print_signed(d: i64) {
+// The absolute value of such a number.
+pub(crate) fn absolute(d: i64) -> u64 {
     let n = lifted(d);
     if n < 1099511627776 {
-        io::write_all(1, b"-");
-        io::print_decimal(1, 1099511627776 - n);
-        return;
+        return 1099511627776 - n;
     }
-    io::print_decimal(1, n - 1099511627776);
+    n - 1099511627776
+}
+
+pub(crate) fn print_signed(d: i64) {
+    if d < 0 {
+        io::write_all(1, b"-");
+    }
+    io::print_decimal(1, absolute(d));
 }

@@ -3,7 +3,8 @@
 use mathlib.Core.Path.{_≡_, refl, sym, ap, ap₂, subst, _∙_}
 use mathlib.Core.Bool.{Bool, true, false, cond}
 use mathlib.Core.List.{List, _++_}
-use Prim.Native.Nat.{ℕ, _+_, _*_, _-_, _<_, _≤_}
+use Prim.Native.Nat.{ℕ, suc, _+_, _*_, _-_, _<_, _≤_, max}
+use native.Mathlib.Nat.{max-zero}
 use native.Mathlib.Numerals.{add-one}
 use native.Mathlib.Omega.{arith}
 use lib.Dec.{T}
@@ -22,11 +23,14 @@ use Rattle.frames.specs.declared.Shown.{Shown}
 use Rattle.layout.specs.Lengths.{frameBytes, frameBits, frameStream, sectorFrames, sectorSize, sectorStream, sectorBits}
 use Rattle.layout.specs.Sectors.{codeOf}
 use Rattle.levels.specs.Inner.{Room}
+use Rattle.levels.specs.Level.{magnitude}
 use Rattle.levels.specs.declared.Running.{Running}
 use Rattle.levels.proofs.Steps.{room-le}
 use Rattle.streams.specs.Frames.{joined, framesOf, sectorOf}
+use Rattle.streams.specs.Peak.{peakOf}
 use Rattle.streams.specs.Streams.{Stream, oneLower, filled, syncFrameOf, bufferAfter}
 use Rattle.streams.proofs.Frames.{frames-laid, frames-take}
+use Rattle.streams.proofs.Peak.{max-assoc, frames-peak}
 use Rattle.streams.proofs.Range.{laid-room, laid-state, width-frames}
 use Rattle.streams.proofs.Shown.{selected-shown}
 use Rattle.writer.specs.Inner.{frameAt, FrameBegins, SectorBegins}
@@ -111,14 +115,15 @@ module _ {r : Running} {bs : List ℕ} {k n : ℕ} {b x y : List ℕ} {q : Shown
 
 -- ---- the frames before it
 
--- k frames are laid
-pub record Laying (r running : Running) (bs out : List ℕ) (k : ℕ) : Type 0 where
+-- k frames are laid; the peak before them was p
+pub record Laying (r running : Running) (p peak : ℕ) (bs out : List ℕ) (k : ℕ) : Type 0 where
   pub running-is : running ≡ framesOf r bs k .running
+  pub peak-is : peak ≡ max p (peakOf r (framesOf r bs k .halves) k)
   pub bytes : take (frameStream * k) out ≡ packed (framesOf r bs k .halves)
 
-pub laying-none : {r : Running} {bs out : List ℕ} → Laying r r bs out 0
-unfolding framesOf packed
-laying-none = record { running-is = refl; bytes = refl }
+pub laying-none : {r : Running} {p : ℕ} {bs out : List ℕ} → Laying r r p p bs out 0
+unfolding framesOf packed peakOf
+laying-none {r} {p} = record { running-is = refl; peak-is = sym (max-zero p); bytes = refl }
 
 frames-suc :
     (r : Running) (bs : List ℕ) (k : ℕ)
@@ -126,19 +131,32 @@ frames-suc :
 unfolding framesOf
 frames-suc r bs k = ap (framesOf r bs) (add-one k)
 
+-- the peak with one frame more
+peak-more :
+    (r : Running) (bs : List ℕ) (p k : ℕ) → frameBytes * (k + 1) ≤ length bs
+    → max (max p (peakOf r (framesOf r bs k .halves) k)) (magnitude (framesOf r bs (k + 1) .running .dsv))
+    ≡ max p (peakOf r (framesOf r bs (k + 1) .halves) (k + 1))
+peak-more r bs p k h =
+    rw (add-one k)
+    (max-assoc p (peakOf r (framesOf r bs k .halves) k) (magnitude (framesOf r bs (suc k) .running .dsv))
+    ∙ ap (max p) (sym (frames-peak r bs k (omega (arith, h)))))
+
 pub laying-more :
-    {r running running₁ : Running} {bs out out₁ : List ℕ} {k : ℕ} → Laying r running bs out k
+    {r running running₁ : Running} {p peak peak₁ : ℕ} {bs out out₁ : List ℕ} {k : ℕ} → Laying r running p peak bs out k
     → (running₁ ≡ frameAt running bs k .running)
     × (take (frameStream * k + frameStream) out₁ ≡ take (frameStream * k) out ++ packed (frameAt running bs k .halves))
-    → Laying r running₁ bs out₁ (k + 1)
-laying-more {r} {running} {running₁} {bs} {out} {out₁} {k} l f =
+    → peak₁ ≡ max peak (magnitude (running₁ .dsv)) → frameBytes * (k + 1) ≤ length bs
+    → Laying r running₁ p peak₁ bs out₁ (k + 1)
+laying-more {r} {running} {running₁} {p} {peak} {peak₁} {bs} {out} {out₁} {k} l f e h =
     let m = framesOf r bs k in
     let next = frameAt (m .running) bs k in
     let same : frameAt running bs k ≡ next = ap (λ (z : Running). frameAt z bs k) (l .running-is) in
     let more = sym (frames-suc r bs k) in
+    let running-is = f .0 ∙ ap (λ (z : Stream). z .running) same ∙ ap (λ (z : Stream). z .running) more in
     let w : frameStream * (k + 1) ≡ frameStream * k + frameStream = omega arith in
     record {
-      running-is = f .0 ∙ ap (λ (z : Stream). z .running) same ∙ ap (λ (z : Stream). z .running) more;
+      running-is = running-is;
+      peak-is = e ∙ ap₂ (λ (x : ℕ) (z : Running). max x (magnitude (z .dsv))) (l .peak-is) running-is ∙ peak-more r bs p k h;
       bytes =
           ap (λ (z : ℕ). take z out₁) w
           ∙ f .1
@@ -148,16 +166,21 @@ laying-more {r} {running} {running₁} {bs} {out} {out₁} {k} l f =
     }
 
 pub laying-all :
-    {r running : Running} {bs out : List ℕ} {k : ℕ} → k ≡ sectorFrames → length out ≡ sectorStream
-    → Laying r running bs out k → (running ≡ sectorOf r bs .running) × (out ≡ packed (sectorOf r bs .halves))
-laying-all {r} {running} {bs} {out} {k} e l h = (
+    {r running : Running} {p peak : ℕ} {bs out : List ℕ} {k : ℕ} → k ≡ sectorFrames → length out ≡ sectorStream
+    → Laying r running p peak bs out k
+    → (running ≡ sectorOf r bs .running)
+    × ((peak ≡ max p (peakOf r (sectorOf r bs .halves) sectorFrames)) × (out ≡ packed (sectorOf r bs .halves)))
+laying-all {r} {running} {p} {peak} {bs} {out} {k} e l h = (
   h .running-is ∙ ap (λ (z : ℕ). framesOf r bs z .running) e,
-  sym (take-all (frameStream * k) out (omega arith)) ∙ h .bytes ∙ ap (λ (z : ℕ). packed (framesOf r bs z .halves)) e,
+  (
+    h .peak-is ∙ ap (λ (z : ℕ). max p (peakOf r (framesOf r bs z .halves) z)) e,
+    sym (take-all (frameStream * k) out (omega arith)) ∙ h .bytes ∙ ap (λ (z : ℕ). packed (framesOf r bs z .halves)) e,
+  ),
 )
 
 -- ---- a frame may begin before each of the 26
 
-module _ {r running : Running} {bs o out : List ℕ} {k : ℕ} (g : SectorBegins r bs o) (l : Laying r running bs out k)
+module _ {r running : Running} {p peak : ℕ} {bs o out : List ℕ} {k : ℕ} (g : SectorBegins r bs o) (l : Laying r running p peak bs out k)
     (h : k < sectorFrames) where
   sector-state : Bytes bs → State (running .state)
   sector-state hb =

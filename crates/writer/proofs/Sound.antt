@@ -3,23 +3,24 @@
 use mathlib.Core.Path.{_≡_, refl, sym, ap, ap₂, subst, _∙_}
 use mathlib.Core.Bool.{Bool, true, false, not, cond, _&&_, _||_}
 use mathlib.Core.List.{List}
-use Prim.Native.Nat.{ℕ, _+_, _-_, _*_, _<_, _≤_}
+use Prim.Native.Nat.{ℕ, _+_, _-_, _*_, _<_, _≤_, max}
 use native.Mathlib.Omega.{arith}
-use borrow.Author.Tests.{eqb-true, leb-false, le-leb, lt-leb, lt-ltb, le-ltb, ltb-true, ltb-false, eq-eqb, ne-eqb}
+use borrow.Author.Tests.{eqb-true, leb-true, leb-false, le-leb, lt-leb, lt-ltb, le-ltb, ltb-true, ltb-false, eq-eqb, ne-eqb}
 use lib.Dec.{T, eqb, ltb, leb, leb→le, le→leb}
 use lib.IntN.{natAbs}
 use lib.ListN.{length}
 use Rattle.lists.specs.Count.{bit}
 use Rattle.lists.proofs.Count.{bit-le}
-use Rattle.lists.proofs.Test.{truth, and-left, and-right, and-both}
+use Rattle.lists.proofs.Test.{truth, and-left, and-right, and-both, and-false, or-none}
 use Rattle.annexg.specs.Read.{State}
 use Rattle.annexg.specs.ZeroRuns.{inside}
 use Rattle.bytes.specs.Halves.{packed}
-use Rattle.layout.specs.Lengths.{sectorBits, sectorCount, sectorSize, sectorStream, closingSize, runSectors}
+use Rattle.layout.specs.Lengths.{sectorBits, sectorCount, sectorFrames, sectorSize, sectorStream, closingSize, runSectors}
 use Rattle.levels.specs.Level.{zeroAt}
 use Rattle.levels.specs.Inner.{Room}
 use Rattle.levels.specs.declared.Running.{Running}
 use Rattle.streams.specs.Frames.{sectorOf, closingOf}
+use Rattle.streams.specs.Peak.{peakOf}
 use Rattle.streams.proofs.Range.{sector-near, closing-near}
 use Rattle.writer.specs.Answers.{closes, sound, ended, sectorRefusal, blockRefusal, closingRefusal, sectorNext, sectorOut, closingNext, closingOut}
 use Rattle.writer.specs.Inner.{SectorBegins}
@@ -29,13 +30,20 @@ use Rattle.writer.proofs.Signed.{abs-offset}
 
 -- ---- the tests of the code, one after the other
 
--- the most that the absolute DSV of a record can be
+-- the most that the absolute DSV of a record can be, by its sectors and by its peak
 abbrev limitOf : Record → ℕ
 limitOf w = sectorBits * w .sectors + 32 * bit (w .closed)
 
+abbrev aboveOf : Record → ℕ
+aboveOf w = w .peak + 32 * bit (w .closed)
+
+-- what number 9 asks of DSV and peak
+abbrev inRange : Record → Bool
+inRange w = leb (natAbs (w .dsv)) (limitOf w) && (leb (natAbs (w .dsv)) (aboveOf w) && leb (w .peak) (sectorBits * w .sectors))
+
 pub sound-by :
     (w : Record) (a b c d e f : Bool) → leb 1 (w .state) ≡ a → leb (w .state) 4 ≡ b → leb (w .level) 1 ≡ c
-    → leb (w .sectors) runSectors ≡ d → not (w .closed) || closes (w .sectors) ≡ e → leb (natAbs (w .dsv)) (limitOf w) ≡ f
+    → leb (w .sectors) runSectors ≡ d → not (w .closed) || closes (w .sectors) ≡ e → inRange w ≡ f
     → (a && b) && (c && (d && (e && f))) ≡ sound w
 unfolding sound
 sound-by w a b c d e f p q r s t u = sym (ap₂ _&&_ (ap₂ _&&_ p q) (ap₂ _&&_ r (ap₂ _&&_ s (ap₂ _&&_ t u))))
@@ -43,17 +51,40 @@ sound-by w a b c d e f p q r s t u = sym (ap₂ _&&_ (ap₂ _&&_ p q) (ap₂ _&&
 -- the first four hold
 pub sound-rest :
     (w : Record) → 1 ≤ w .state → w .state ≤ 4 → w .level ≤ 1 → w .sectors ≤ runSectors → (e f : Bool)
-    → not (w .closed) || closes (w .sectors) ≡ e → leb (natAbs (w .dsv)) (limitOf w) ≡ f → e && f ≡ sound w
+    → not (w .closed) || closes (w .sectors) ≡ e → inRange w ≡ f → e && f ≡ sound w
 sound-rest w p q r s e f t u =
     sound-by w true true true true e f
     (le-leb 1 (w .state) p) (le-leb (w .state) 4 q) (le-leb (w .level) 1 r) (le-leb (w .sectors) runSectors s) t u
 
+-- a peak over 38,688 times the sectors
+pub peak-over : (w : Record) → sectorBits * w .sectors < w .peak → inRange w ≡ false
+peak-over w h =
+    let dsv = leb (natAbs (w .dsv)) (limitOf w) in
+    let above = leb (natAbs (w .dsv)) (aboveOf w) in
+    ap (λ (x : Bool). dsv && (above && x)) (lt-leb (w .peak) (sectorBits * w .sectors) h)
+    ∙ ap (λ (x : Bool). dsv && x) (and-false above)
+    ∙ and-false dsv
+
 -- a DSV beyond 2^40 is beyond every limit
-pub too-far :
-    (w : Record) → w .sectors ≤ runSectors → leb (natAbs (w .dsv)) zeroAt ≡ false
-    → leb (natAbs (w .dsv)) (limitOf w) ≡ false
+pub too-far : (w : Record) → w .sectors ≤ runSectors → leb (natAbs (w .dsv)) zeroAt ≡ false → inRange w ≡ false
 too-far w h e =
-    lt-leb (natAbs (w .dsv)) (limitOf w) (omega (arith, leb-false (natAbs (w .dsv)) zeroAt e, bit-le (w .closed)))
+    let far = lt-leb (natAbs (w .dsv)) (limitOf w) (omega (arith, leb-false (natAbs (w .dsv)) zeroAt e, bit-le (w .closed))) in
+    ap (λ (x : Bool). x && (leb (natAbs (w .dsv)) (aboveOf w) && leb (w .peak) (sectorBits * w .sectors))) far
+
+-- a DSV that is not above a peak in its range is in its own range
+pub dsv-by-peak : (w : Record) → w .peak ≤ sectorBits * w .sectors → leb (natAbs (w .dsv)) (aboveOf w) ≡ inRange w
+dsv-by-peak w h = by (leb (natAbs (w .dsv)) (aboveOf w)) refl
+  where
+    peak : leb (w .peak) (sectorBits * w .sectors) ≡ true
+    peak = le-leb (w .peak) (sectorBits * w .sectors) h
+
+    by : (x : Bool) → leb (natAbs (w .dsv)) (aboveOf w) ≡ x → x ≡ inRange w
+    by true e =
+        let dsv = le-leb (natAbs (w .dsv)) (limitOf w) (omega (arith, leb-true (natAbs (w .dsv)) (aboveOf w) e)) in
+        sym (ap₂ _&&_ dsv (ap₂ _&&_ e peak))
+    by false e =
+        let dsv = leb (natAbs (w .dsv)) (limitOf w) in
+        sym (ap (λ (x : Bool). dsv && (x && leb (w .peak) (sectorBits * w .sectors))) e ∙ and-false dsv)
 
 pub sector-by :
     (w : Record) (from to : ℕ) (a b c d : Bool) → eqb from sectorSize ≡ a → eqb to sectorStream ≡ b → sound w ≡ c → ended w 1 ≡ d
@@ -113,6 +144,8 @@ pub record Sound (w : Record) : Type 0 where
   pub sectors : w .sectors ≤ runSectors
   pub whole : w .closed ≡ true → T (closes (w .sectors))
   pub dsv : natAbs (w .dsv) ≤ limitOf w
+  pub above : natAbs (w .dsv) ≤ aboveOf w
+  pub peak : w .peak ≤ sectorBits * w .sectors
 
 closed-with : (c x : Bool) → T (not c || x) → c ≡ true → T x
 closed-with true x t e = t
@@ -138,34 +171,46 @@ module _ (w : Record) where
   b₅ : Bool
   b₅ = leb (natAbs (w .dsv)) (limitOf w)
 
+  b₆ : Bool
+  b₆ = leb (natAbs (w .dsv)) (aboveOf w)
+
+  b₇ : Bool
+  b₇ = leb (w .peak) (sectorBits * w .sectors)
+
   pub sound-is : T (sound w) → Sound w
-  unfolding sound b₁ b₂ b₃ b₄ b₅
+  unfolding sound b₁ b₂ b₃ b₄ b₅ b₆ b₇
   sound-is t =
-      let t₁ = and-left b₁ (b₂ && (b₃ && (b₄ && b₅))) t in
-      let u₁ = and-right b₁ (b₂ && (b₃ && (b₄ && b₅))) t in
-      let u₂ = and-right b₂ (b₃ && (b₄ && b₅)) u₁ in
-      let u₃ = and-right b₃ (b₄ && b₅) u₂ in
+      let t₁ = and-left b₁ (b₂ && (b₃ && (b₄ && (b₅ && (b₆ && b₇))))) t in
+      let u₁ = and-right b₁ (b₂ && (b₃ && (b₄ && (b₅ && (b₆ && b₇))))) t in
+      let u₂ = and-right b₂ (b₃ && (b₄ && (b₅ && (b₆ && b₇)))) u₁ in
+      let u₃ = and-right b₃ (b₄ && (b₅ && (b₆ && b₇))) u₂ in
+      let u₄ = and-right b₄ (b₅ && (b₆ && b₇)) u₃ in
+      let u₅ = and-right b₅ (b₆ && b₇) u₄ in
       record {
         state =
             record {
               low = leb→le 1 (w .state) (and-left (leb 1 (w .state)) (leb (w .state) 4) t₁);
               high = leb→le (w .state) 4 (and-right (leb 1 (w .state)) (leb (w .state) 4) t₁);
             };
-        level = omega (arith, leb→le (w .level) 1 (and-left b₂ (b₃ && (b₄ && b₅)) u₁));
-        sectors = leb→le (w .sectors) runSectors (and-left b₃ (b₄ && b₅) u₂);
-        whole = closed-with (w .closed) (closes (w .sectors)) (and-left b₄ b₅ u₃);
-        dsv = leb→le (natAbs (w .dsv)) (limitOf w) (and-right b₄ b₅ u₃);
+        level = omega (arith, leb→le (w .level) 1 (and-left b₂ (b₃ && (b₄ && (b₅ && (b₆ && b₇)))) u₁));
+        sectors = leb→le (w .sectors) runSectors (and-left b₃ (b₄ && (b₅ && (b₆ && b₇))) u₂);
+        whole = closed-with (w .closed) (closes (w .sectors)) (and-left b₄ (b₅ && (b₆ && b₇)) u₃);
+        dsv = leb→le (natAbs (w .dsv)) (limitOf w) (and-left b₅ (b₆ && b₇) u₄);
+        above = leb→le (natAbs (w .dsv)) (aboveOf w) (and-left b₆ b₇ u₅);
+        peak = leb→le (w .peak) (sectorBits * w .sectors) (and-right b₆ b₇ u₅);
       }
 
   pub is-sound : Sound w → T (sound w)
-  unfolding sound b₁ b₂ b₃ b₄ b₅
+  unfolding sound b₁ b₂ b₃ b₄ b₅ b₆ b₇
   is-sound s =
       let low = le→leb 1 (w .state) (s .state .low) in
       let high = le→leb (w .state) 4 (s .state .high) in
-      and-both b₁ (b₂ && (b₃ && (b₄ && b₅))) (and-both (leb 1 (w .state)) (leb (w .state) 4) low high)
-      (and-both b₂ (b₃ && (b₄ && b₅)) (le→leb (w .level) 1 (omega (arith, s .level)))
-      (and-both b₃ (b₄ && b₅) (le→leb (w .sectors) runSectors (s .sectors))
-      (and-both b₄ b₅ (with-closed (w .closed) (closes (w .sectors)) (s .whole)) (le→leb (natAbs (w .dsv)) (limitOf w) (s .dsv)))))
+      and-both b₁ (b₂ && (b₃ && (b₄ && (b₅ && (b₆ && b₇))))) (and-both (leb 1 (w .state)) (leb (w .state) 4) low high)
+      (and-both b₂ (b₃ && (b₄ && (b₅ && (b₆ && b₇)))) (le→leb (w .level) 1 (omega (arith, s .level)))
+      (and-both b₃ (b₄ && (b₅ && (b₆ && b₇))) (le→leb (w .sectors) runSectors (s .sectors))
+      (and-both b₄ (b₅ && (b₆ && b₇)) (with-closed (w .closed) (closes (w .sectors)) (s .whole))
+      (and-both b₅ (b₆ && b₇) (le→leb (natAbs (w .dsv)) (limitOf w) (s .dsv))
+      (and-both b₆ b₇ (le→leb (natAbs (w .dsv)) (aboveOf w) (s .above)) (le→leb (w .peak) (sectorBits * w .sectors) (s .peak)))))))
 
   module _ (s : Sound w) where
     pub near : natAbs (w .dsv) ≤ zeroAt
@@ -183,10 +228,6 @@ module _ (w : Record) where
 
 -- ---- nothing is refused
 
-either-false : (a b : Bool) → (a || b) ≡ false → (a ≡ false) × (b ≡ false)
-either-false true b e = absurd (subst T e tt)
-either-false false b e = (refl, e)
-
 -- a sound record with room for n sectors more
 pub record Open (w : Record) (n : ℕ) : Type 0 where
   pub is : Sound w
@@ -195,7 +236,7 @@ pub record Open (w : Record) (n : ℕ) : Type 0 where
 
 open-by : (w : Record) (n : ℕ) → sound w ≡ true → ended w n ≡ false → Open w n
 open-by w n s e =
-    let parts = either-false (w .closed) (ltb runSectors (w .sectors + n)) e in
+    let parts = or-none (w .closed) (ltb runSectors (w .sectors + n)) e in
     record { is = sound-is w (subst T (sym s) tt); open-yet = parts .0; more = ltb-false runSectors (w .sectors + n) (parts .1) }
 
 pub open-not-ended : (w : Record) (n : ℕ) → Open w n → ended w n ≡ false
@@ -278,17 +319,18 @@ module _ (w : Record) (bs out : List ℕ) (no : ℕ) (e : no ≡ sectorRefusal w
       )
 
   pub sector-done :
-      no ≡ 0 → (r : Running) → r ≡ runningOf w → (q : Running) (y : List ℕ)
-      → (q ≡ sectorOf r bs .running) × (y ≡ packed (sectorOf r bs .halves))
-      → (recordOf q (w .sectors + 1) (w .closed) ≡ sectorNext w bs (length out)) × (y ≡ sectorOut w bs out)
+      no ≡ 0 → (r : Running) → r ≡ runningOf w → (q : Running) (p : ℕ) (y : List ℕ)
+      → (q ≡ sectorOf r bs .running) × ((p ≡ max (w .peak) (peakOf r (sectorOf r bs .halves) sectorFrames)) × (y ≡ packed (sectorOf r bs .halves)))
+      → (recordOf q p (w .sectors + 1) (w .closed) ≡ sectorNext w bs (length out)) × (y ≡ sectorOut w bs out)
   unfolding sectorNext sectorOut
-  sector-done z r re q y h =
+  sector-done z r re q p y h =
       let f : eqb (sectorRefusal w (length bs) (length out)) 0 ≡ true = eq-eqb _ 0 (sym e ∙ z) in
       let stream = packed (sectorOf (runningOf w) bs .halves) in
-      let running = h .0 ∙ ap (λ (v : Running). sectorOf v bs .running) re in (
-        ap (λ (v : Running). recordOf v (w .sectors + 1) (w .closed)) running
+      let running = h .0 ∙ ap (λ (v : Running). sectorOf v bs .running) re in
+      let peak = h .1 .0 ∙ ap (λ (v : Running). max (w .peak) (peakOf v (sectorOf v bs .halves) sectorFrames)) re in (
+        ap₂ (λ (v : Running) (k : ℕ). recordOf v k (w .sectors + 1) (w .closed)) running peak
             ∙ sym (ap (λ (b : Bool). cond b (afterSector w bs) w) f),
-        h .1 ∙ ap (λ (v : Running). packed (sectorOf v bs .halves)) re ∙ sym (ap (λ (b : Bool). cond b stream out) f),
+        h .1 .1 ∙ ap (λ (v : Running). packed (sectorOf v bs .halves)) re ∙ sym (ap (λ (b : Bool). cond b stream out) f),
       )
 
 module _ (w : Record) (out : List ℕ) (no : ℕ) (e : no ≡ closingRefusal w (length out)) where
@@ -304,13 +346,13 @@ module _ (w : Record) (out : List ℕ) (no : ℕ) (e : no ≡ closingRefusal w (
   pub closing-done :
       no ≡ 0 → (r : Running) → r ≡ runningOf w → (q : Running) (y : List ℕ)
       → (q ≡ closingOf r .running) × (y ≡ packed (closingOf r .halves))
-      → (recordOf q (w .sectors) true ≡ closingNext w (length out)) × (y ≡ closingOut w out)
+      → (recordOf q (w .peak) (w .sectors) true ≡ closingNext w (length out)) × (y ≡ closingOut w out)
   unfolding closingNext closingOut
   closing-done z r re q y h =
       let f : eqb (closingRefusal w (length out)) 0 ≡ true = eq-eqb _ 0 (sym e ∙ z) in
       let stream = packed (closingOf (runningOf w) .halves) in
       let running = h .0 ∙ ap (λ (v : Running). closingOf v .running) re in (
-        ap (λ (v : Running). recordOf v (w .sectors) true) running
+        ap (λ (v : Running). recordOf v (w .peak) (w .sectors) true) running
             ∙ sym (ap (λ (b : Bool). cond b (afterClosing w) w) f),
         h .1 ∙ ap (λ (v : Running). packed (closingOf v .halves)) re ∙ sym (ap (λ (b : Bool). cond b stream out) f),
       )

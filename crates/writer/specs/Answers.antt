@@ -1,4 +1,5 @@
--- The writer's refusals and answers (document 01, "Refused because of the state"; document 02, request 1, for a run of blocks).
+-- The writer's refusals and answers (document 01, "Refused because of the state"; document 02, request 1, for a run of blocks,
+-- and request 4, for the peak).
 -- Assumes nothing.
 use mathlib.Core.Bool.{Bool, not, cond, _&&_, _||_}
 use mathlib.Core.List.{List}
@@ -29,14 +30,17 @@ abbrev pub closes : ℕ → Bool
 closes n = leb 1 n && eqb (n % sectorCount) 0
 
 -- a record that number 9 does not refuse: State 1 to 4, level 0 or 1, at most 16,777,216 sectors, closed only at a count at which closing is accepted, the
--- absolute DSV at most 38,688 times the sectors, and 32 more if closed
+-- absolute DSV at most 38,688 times the sectors, and 32 more if closed; the peak not below the absolute DSV, or not by more than 32 if closed, and at most 38,688
+-- times the sectors (document 02, request 4)
 unfoldable pub sound : Record → Bool
 sound w =
     inside 1 4 (w .state)
     && (leb (w .level) 1
     && (leb (w .sectors) runSectors
     && ((not (w .closed) || closes (w .sectors))
-    && leb (natAbs (w .dsv)) (sectorBits * w .sectors + 32 * bit (w .closed)))))
+    && (leb (natAbs (w .dsv)) (sectorBits * w .sectors + 32 * bit (w .closed))
+    && (leb (natAbs (w .dsv)) (w .peak + 32 * bit (w .closed))
+    && leb (w .peak) (sectorBits * w .sectors))))))
 
 -- n sectors more can't follow: the closing code is written, or they would go over number 16,777,216 of the run
 abbrev pub ended : Record → ℕ → Bool

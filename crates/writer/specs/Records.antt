@@ -2,12 +2,15 @@
 -- Assumes nothing.
 use mathlib.Core.Bool.{Bool, true, false}
 use mathlib.Core.List.{List}
-use Prim.Native.Nat.{ℕ, suc, _+_, _-_}
+use Prim.Native.Nat.{ℕ, suc, _+_, _*_, _-_, max}
 use lib.IntN.{ℤ, pos, negsuc, _-ℤ_}
+use lib.ListN.{length}
 use Rattle.levels.specs.Level.{zeroAt}
 use Rattle.levels.specs.declared.Running.{Running}
-use Rattle.streams.specs.Frames.{sectorOf, sectorsOf, closingOf}
-use Rattle.layout.specs.Lengths.{sectorCount}
+use Rattle.streams.specs.Frames.{sectorOf, sectorsOf, closingOf, runOf}
+use Rattle.streams.specs.Peak.{peakOf}
+use Rattle.streams.specs.Streams.{Stream}
+use Rattle.layout.specs.Lengths.{sectorCount, sectorFrames}
 use Rattle.writer.specs.declared.Record.{Record}
 
 -- the record holds the DSV as a signed number, the running record holds it with 0 at 2^40: one from the other
@@ -18,26 +21,41 @@ offset (negsuc n) = zeroAt - suc n
 abbrev pub signed : ℕ → ℤ
 signed d = pos d -ℤ pos zeroAt
 
--- a run starts at State 1, level ZERO, DSV 0; its later blocks go on from the record
+-- a run starts at State 1, level ZERO, DSV 0, peak 0; its later blocks go on from the record
 abbrev pub start : Record
-start = record { state = 1; level = 0; dsv = pos 0; sectors = 0; closed = false }
+start = record { state = 1; level = 0; dsv = pos 0; sectors = 0; closed = false; peak = 0 }
 
 -- the running record from which the next sector or the closing code is laid
 abbrev pub runningOf : Record → Running
 runningOf w = record { state = w .state; level = w .level; dsv = offset (w .dsv) }
 
--- the record with another running record, so many sectors, open or closed
-abbrev pub recordOf : Running → ℕ → Bool → Record
-recordOf r n c = record { state = r .state; level = r .level; dsv = signed (r .dsv); sectors = n; closed = c }
+-- the record with another running record and peak, so many sectors, open or closed
+abbrev pub recordOf : Running → ℕ → ℕ → Bool → Record
+recordOf r p n c = record { state = r .state; level = r .level; dsv = signed (r .dsv); sectors = n; closed = c; peak = p }
 
--- the record after a sector of the bytes bs
+-- the peak after n sectors of the stream m: the greatest at the ends of their 26 frames each, and what the record held (document 02, request 4)
+abbrev pub peakAfter : Record → Stream → ℕ → ℕ
+peakAfter w m n = max (w .peak) (peakOf (runningOf w) (m .halves) (sectorFrames * n))
+
+-- the record after n sectors of the stream m
+abbrev pub afterSectors : Record → Stream → ℕ → Record
+afterSectors w m n = recordOf (m .running) (peakAfter w m n) (w .sectors + n) (w .closed)
+
+-- after a sector of the bytes bs
 abbrev pub afterSector : Record → List ℕ → Record
-afterSector w bs = recordOf (sectorOf (runningOf w) bs .running) (w .sectors + 1) (w .closed)
+afterSector w bs = afterSectors w (sectorOf (runningOf w) bs) 1
 
 -- after the sixteen sectors of a block
 abbrev pub afterBlock : Record → List ℕ → Record
-afterBlock w bs = recordOf (sectorsOf (runningOf w) bs sectorCount .running) (w .sectors + sectorCount) (w .closed)
+afterBlock w bs = afterSectors w (sectorsOf (runningOf w) bs sectorCount) sectorCount
 
--- after the closing code
+-- after the closing code, which doesn't count towards the peak
 abbrev pub afterClosing : Record → Record
-afterClosing w = recordOf (closingOf (runningOf w) .running) (w .sectors) true
+afterClosing w = recordOf (closingOf (runningOf w) .running) (w .peak) (w .sectors) true
+
+-- after the blocks of a run and the closing code
+abbrev pub afterRun : Record → List (List ℕ) → Record
+afterRun w run =
+    let m = runOf (runningOf w) run in
+    let n = sectorCount * length run in
+    recordOf (m .running) (peakAfter w m n) (w .sectors + n) true

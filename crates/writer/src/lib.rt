@@ -9,7 +9,8 @@ ghost use Rattle.writer.specs.Records.{start};
 ghost use Rattle.writer.specs.Answers.{answerNumber, sectorRefusal, sectorNext, sectorOut, closingRefusal, closingNext, closingOut};
 pub use refusal::block_refusal;
 
-// The writer's record: the State prescribed next, the NRZI level, the DSV, the sectors written, and whether the closing code is written.
+// The writer's record: the State prescribed next, the NRZI level, the DSV, the sectors written, whether the closing code is written, and the peak, which is the
+// greatest absolute DSV at the end of a Sync Frame so far.
 #[repr(C)]
 pub struct Record {
     pub state: u8,
@@ -17,6 +18,7 @@ pub struct Record {
     pub dsv: i64,
     pub sectors: u32,
     pub closed: bool,
+    pub peak: u64,
 }
 
 // What a call answers. Only `Done` changes anything.
@@ -44,6 +46,7 @@ pub fn new() -> Record
         dsv: 0,
         sectors: 0,
         closed: false,
+        peak: 0,
     }
 }
 
@@ -61,8 +64,14 @@ pub fn write_sector(current: Record, bytes: &[u8], out: &mut [u8]) -> Step
             answer: refusal,
         };
     };
-    let running = sector::sector(refusal::running_of(current), bytes, &mut *out);
-    let next = refusal::record_of(running, current.sectors + 1, current.closed);
+    let running = refusal::running_of(current);
+    let reached = sector::sector(running, current.peak, bytes, &mut *out);
+    let next = refusal::record_of(
+        reached.running,
+        reached.peak,
+        current.sectors + 1,
+        current.closed,
+    );
     Step {
         next,
         answer: Answer::Done,
@@ -83,7 +92,7 @@ pub fn close(current: Record, out: &mut [u8]) -> Step
         };
     };
     let running = sector::closing(refusal::running_of(current), &mut *out);
-    let next = refusal::record_of(running, current.sectors, true);
+    let next = refusal::record_of(running, current.peak, current.sectors, true);
     Step {
         next,
         answer: Answer::Done,

@@ -65,9 +65,9 @@ pub(crate) fn running_of(current: Record) -> Running
     }
 }
 
-pub(crate) fn record_of(running: Running, sectors: u32, closed: bool) -> Record
+pub(crate) fn record_of(running: Running, peak: u64, sectors: u32, closed: bool) -> Record
     requires { ⌜ running .dsv ≤ 2 * zeroAt ⌝ }
-    ensures { λ r. ⌜ r ≡ recordOf running sectors closed ⌝ }
+    ensures { λ r. ⌜ r ≡ recordOf running peak sectors closed ⌝ }
 {
     let dsv = signed_of(running.dsv);
     Record {
@@ -76,19 +76,27 @@ pub(crate) fn record_of(running: Running, sectors: u32, closed: bool) -> Record
         dsv,
         sectors,
         closed,
+        peak,
     }
 }
 
-// The most that the absolute DSV can be: each code bit moves it by 1.
-fn limit(sectors: u32, closed: bool) -> u64
+// The most that the peak can be: each code bit moves the DSV by 1.
+fn highest_peak(sectors: u32) -> u64
     requires { ⌜ sectors ≤ runSectors ⌝ }
-    ensures { λ r. ⌜ r ≡ sectorBits * sectors + 32 * bit closed ⌝ }
+    ensures { λ r. ⌜ r ≡ sectorBits * sectors ⌝ }
 {
-    let bits = SECTOR_BITS * (sectors as u64);
+    SECTOR_BITS * (sectors as u64)
+}
+
+// The most that the absolute DSV can be: before closing it is that at the end of a frame, and the closing code, which the peak does not count, has 32 bits.
+fn highest_dsv(peak: u64, closed: bool) -> u64
+    requires { ⌜ peak ≤ zeroAt ⌝ }
+    ensures { λ r. ⌜ r ≡ peak + 32 * bit closed ⌝ }
+{
     if closed {
-        return bits + CLOSING_BITS;
+        return peak + CLOSING_BITS;
     }
-    bits
+    peak
 }
 
 // Closing is accepted at so many sectors: whole blocks, at least one.
@@ -110,7 +118,7 @@ fn is_whole(closed: bool, sectors: u32) -> bool
     true
 }
 
-// Number 9 does not refuse the record.
+// Number 9 does not refuse the record. Where the peak is in range and the DSV not above it, the DSV is in its own range too.
 fn is_sound(current: Record) -> bool
     ensures { λ r. ⌜ r ≡ sound current ⌝ }
 {
@@ -129,10 +137,14 @@ fn is_sound(current: Record) -> bool
     if !is_whole(current.closed, current.sectors) {
         return false;
     }
+    let limit = highest_peak(current.sectors);
+    if limit < current.peak {
+        return false;
+    }
     if !is_near(current.dsv) {
         return false;
     }
-    levels::absolute(offset_of(current.dsv)) <= limit(current.sectors, current.closed)
+    levels::absolute(offset_of(current.dsv)) <= highest_dsv(current.peak, current.closed)
 }
 
 // So many sectors more can't follow: the closing code is written, or they would go over the run's last number.

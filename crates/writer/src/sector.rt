@@ -2,21 +2,28 @@
 ghost use mathlib.Core.Path.{_≡_};
 ghost use mathlib.Core.Bool.{not, cond};
 ghost use mathlib.Core.List.{_++_};
-ghost use Prim.Native.Nat.{_+_, _*_, _≤_};
+ghost use Prim.Native.Nat.{_+_, _*_, _≤_, max};
 ghost use lib.ListN.{length, take};
 ghost use Rattle.annexg.specs.Read.{tableOf};
 ghost use Rattle.annexg.specs.Sync.{syncTable};
 ghost use Rattle.bytes.specs.Halves.{packed};
-ghost use Rattle.layout.specs.Lengths.{frameStream, closingSize};
+ghost use Rattle.layout.specs.Lengths.{frameStream, sectorFrames, closingSize};
 ghost use Rattle.layout.specs.Sectors.{frameCodes};
 ghost use Rattle.levels.specs.Inner.{Room, levelTable};
 ghost use Rattle.streams.specs.Frames.{sectorOf, closingOf};
+ghost use Rattle.streams.specs.Peak.{peakOf};
 ghost use Rattle.streams.specs.Streams.{oneLower, opened};
 ghost use Rattle.writer.specs.Inner.{frameAt, FrameBegins, SectorBegins};
 use layout::FRAME_BYTES;
 use layout::FRAME_STREAM;
 use layout::SECTOR_FRAMES;
 use levels::Running;
+
+// The running record after a sector, and the peak so far (document 02, request 4).
+pub(crate) struct Reached {
+    pub(crate) running: Running,
+    pub(crate) peak: u64,
+}
 
 // The part of the buffer whose stream is shown: Stream 1's where it is the lower.
 fn select<'a>(stream1: &'a [u8], stream2: &'a [u8], first: bool) -> &'a [u8]
@@ -73,18 +80,28 @@ fn frame(
     shown.running
 }
 
-// The frames of a sector, by tables and two frame buffers that are lent.
+fn higher(one: u64, two: u64) -> u64
+    ensures { λ r. ⌜ r ≡ max one two ⌝ }
+{
+    if one < two {
+        return two;
+    }
+    one
+}
+
+// The frames of a sector, by tables and two frame buffers that are lent, and the peak over their ends from the one held before.
 fn frames(
     words: &[u32; 1024],
     substitutes: &[u32; 352],
     syncs: &[u16; 32],
     levels: &[u8; 256],
     start: Running,
+    held: u64,
     bytes: &[u8],
     stream1: &mut [u8],
     stream2: &mut [u8],
     out: &mut [u8],
-) -> Running
+) -> Reached
     requires { ⌜ now levels ≡ levelTable ⌝ }
     requires { ⌜ now words ≡ tableOf 0 ⌝ }
     requires { ⌜ now substitutes ≡ tableOf 1 ⌝ }
@@ -92,11 +109,13 @@ fn frames(
     requires { ⌜ SectorBegins start (now bytes) (now out) ⌝ }
     requires { ⌜ length (now stream1) ≡ frameStream ⌝ }
     requires { ⌜ length (now stream2) ≡ frameStream ⌝ }
-    ensures running { λ r. ⌜ r ≡ sectorOf start (now (bytes .entry)) .running ⌝ }
+    ensures running { λ r. ⌜ r .running ≡ sectorOf start (now (bytes .entry)) .running ⌝ }
+    ensures peak { λ r. ⌜ r .peak ≡ max held (peakOf start (sectorOf start (now (bytes .entry)) .halves) sectorFrames) ⌝ }
     ensures laid { λ r. ⌜ now (out .exit) ≡ packed (sectorOf start (now (bytes .entry)) .halves) ⌝ }
 {
     let codes = layout::frame_codes();
     let mut running = start;
+    let mut peak = held;
     for k in 0..SECTOR_FRAMES {
         running = frame(
             words,
@@ -111,14 +130,16 @@ fn frames(
             &mut *stream2,
             &mut *out,
         );
+        peak = higher(peak, levels::absolute(running.dsv));
     }
-    running
+    Reached { running, peak }
 }
 
-// A sector from a running record.
-pub(crate) fn sector(start: Running, bytes: &[u8], out: &mut [u8]) -> Running
+// A sector from a running record and the peak so far.
+pub(crate) fn sector(start: Running, held: u64, bytes: &[u8], out: &mut [u8]) -> Reached
     requires { ⌜ SectorBegins start (now bytes) (now out) ⌝ }
-    ensures running { λ r. ⌜ r ≡ sectorOf start (now (bytes .entry)) .running ⌝ }
+    ensures running { λ r. ⌜ r .running ≡ sectorOf start (now (bytes .entry)) .running ⌝ }
+    ensures peak { λ r. ⌜ r .peak ≡ max held (peakOf start (sectorOf start (now (bytes .entry)) .halves) sectorFrames) ⌝ }
     ensures laid { λ r. ⌜ now (out .exit) ≡ packed (sectorOf start (now (bytes .entry)) .halves) ⌝ }
 {
     let words = annexg::main_table();
@@ -133,6 +154,7 @@ pub(crate) fn sector(start: Running, bytes: &[u8], out: &mut [u8]) -> Running
         &syncs,
         &levels,
         start,
+        held,
         bytes,
         &mut stream1,
         &mut stream2,

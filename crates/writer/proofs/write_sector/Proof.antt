@@ -79,7 +79,7 @@ returns-2 c =
     let number = asked .sector-refusal .ensures in
     let done = done-number (asked .sector-refusal .result) (told .match .keys1) in
     let left =
-    sector-done (a .current) (a .bytes .now) (a .out .now) _ number done _ (running .running-of .ensures) _ _
+    sector-done (a .current) (a .bytes .now) (a .out .now) _ number done _ (running .running-of .ensures) _ _ _
     (laid .sector .ensures) in
     (sym done ∙ number, (c .record-of .ensures ∙ left .0, left .1))
 

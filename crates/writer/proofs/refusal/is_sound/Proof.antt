@@ -2,17 +2,19 @@
 -- Assumes nothing.
 use mathlib.Core.Path.{refl, sym, ap, ap₂, _∙_}
 use mathlib.Core.Bool.{true, false}
+use Prim.Native.Nat.{_*_, _≤_}
+use native.Mathlib.Omega.{arith}
 use borrow.Author.Needs.{needs}
 use borrow.Author.Tests.{le-leb, lt-leb, leb-true, not-true, not-false}
 use lib.Dec.{leb}
 use lib.IntN.{ℤ, natAbs}
 use mir.Syntax.{w64}
 use mir.ValLaws.{toZ-ofZ}
-use Rattle.layout.specs.Lengths.{runSectors}
+use Rattle.layout.specs.Lengths.{sectorBits, runSectors}
 use Rattle.levels.specs.Level.{zeroAt, magnitude}
 use Rattle.writer.specs.Records.{offset}
 use Rattle.writer.proofs.Signed.{abs-offset}
-use Rattle.writer.proofs.Sound.{sound-by, sound-rest, too-far}
+use Rattle.writer.proofs.Sound.{sound-by, sound-rest, peak-over, too-far, dsv-by-peak}
 use Rattle.writer.proofs.refusal.is_sound.Statement.{statement}
 use Rattle.writer.proofs.refusal.is_sound.Tie as tie
 
@@ -58,14 +60,32 @@ returns-5 c =
     sound-rest w (one .if1 .left) (four .if2 .left) (level .if3 .left) (sectors .if4 .left) false _
     (sym (whole .is-whole .ensures) ∙ not-true (whole .is-whole .result) (c .if5 .taken)) refl
 
-is-near-requires : tie.Need-is-near-requires
-is-near-requires c κs = search needs
+highest-peak-requires : tie.Need-highest-peak-requires
+highest-peak-requires c κs = search needs
 
 returns-6 : tie.Need-returns-6
 returns-6 c =
+    let limited = c .before .before in
+    let closed = limited .before in
+    let whole = closed .before in
+    let sectors = whole .before in
+    let level = sectors .before .before in
+    let four = level .before .before in
+    let one = four .before .before in
+    let w = one .before .before .args .current in
+    sound-rest w (one .if1 .left) (four .if2 .left) (level .if3 .left) (sectors .if4 .left) true false
+    (sym (whole .is-whole .ensures) ∙ not-false (whole .is-whole .result) (closed .if5 .left))
+    (peak-over w (omega (arith, limited .highest-peak .ensures, c .if6 .taken)))
+
+is-near-requires : tie.Need-is-near-requires
+is-near-requires c κs = search needs
+
+returns-7 : tie.Need-returns-7
+returns-7 c =
     let near = c .before in
     let told = near .before in
-    let closed = told .before in
+    let limited = told .before .before .before in
+    let closed = limited .before in
     let whole = closed .before in
     let sectors = whole .before in
     let level = sectors .before .before in
@@ -75,7 +95,7 @@ returns-6 c =
     let same = toZ-ofZ w64 (w .dsv) (record { sfits = told .struct-told .given .1 .1 .0 .1 }) in
     let far =
     ap (λ (z : ℤ). leb (natAbs z) zeroAt) (sym same) ∙ sym (near .is-near .ensures)
-    ∙ not-true (near .is-near .result) (c .if6 .taken) in
+    ∙ not-true (near .is-near .result) (c .if7 .taken) in
     sound-rest w (one .if1 .left) (four .if2 .left) (level .if3 .left) (sectors .if4 .left) true false
     (sym (whole .is-whole .ensures) ∙ not-false (whole .is-whole .result) (closed .if5 .left))
     (too-far w (sectors .if4 .left) far)
@@ -84,21 +104,23 @@ offset-of-requires : tie.Need-offset-of-requires
 offset-of-requires c κs =
     let tested = c .before in
     let near = tested .before in
-    leb-true _ _ (sym (near .is-near .ensures) ∙ not-false (near .is-near .result) (tested .if6 .left))
+    leb-true _ _ (sym (near .is-near .ensures) ∙ not-false (near .is-near .result) (tested .if7 .left))
 
 absolute-requires : tie.Need-absolute-requires
 absolute-requires c κs = search needs
 
-limit-requires : tie.Need-limit-requires
-limit-requires c κs = search needs
+highest-dsv-requires : tie.Need-highest-dsv-requires
+highest-dsv-requires c κs = search needs
 
-returns-7 : tie.Need-returns-7
-returns-7 c =
+returns-8 : tie.Need-returns-8
+returns-8 c =
     let held = c .before .before in
     let tested = held .before .before in
     let near = tested .before in
     let told = near .before in
-    let closed = told .before in
+    let passed = told .before in
+    let limited = passed .before .before in
+    let closed = limited .before in
     let whole = closed .before in
     let sectors = whole .before in
     let level = sectors .before .before in
@@ -109,12 +131,13 @@ returns-7 c =
     let small =
     leb-true (natAbs (w .dsv)) zeroAt
     (ap (λ (z : ℤ). leb (natAbs z) zeroAt) (sym same) ∙ sym (near .is-near .ensures)
-    ∙ not-false (near .is-near .result) (tested .if6 .left)) in
+    ∙ not-false (near .is-near .result) (tested .if7 .left)) in
     let offset-is = held .offset-of .ensures ∙ ap offset same in
     let absolute = c .before .absolute .ensures ∙ ap magnitude offset-is ∙ abs-offset (w .dsv) small in
+    let peak : w .peak ≤ sectorBits * w .sectors = omega (arith, limited .highest-peak .ensures, passed .if6 .left) in
     sound-rest w (one .if1 .left) (four .if2 .left) (level .if3 .left) (sectors .if4 .left) true _
     (sym (whole .is-whole .ensures) ∙ not-false (whole .is-whole .result) (closed .if5 .left))
-    (sym (ap₂ leb absolute (c .limit .ensures)))
+    (sym (ap₂ leb absolute (c .highest-dsv .ensures) ∙ dsv-by-peak w peak))
 
 pub is-sound-spec : {M : Type 1} → statement M
 is-sound-spec =
@@ -126,9 +149,11 @@ is-sound-spec =
     returns-4
     is-whole-requires
     returns-5
-    is-near-requires
+    highest-peak-requires
     returns-6
+    is-near-requires
+    returns-7
     offset-of-requires
     absolute-requires
-    limit-requires
-    returns-7)
+    highest-dsv-requires
+    returns-8)

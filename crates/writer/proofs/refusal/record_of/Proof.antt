@@ -15,7 +15,7 @@ returns : tie.Need-returns
 returns c =
     let a = c .before .args in
     let r = a .running in
-    ap (λ (d : ℤ). record { state = r .state; level = r .level; dsv = d; sectors = a .sectors; closed = a .closed })
+    ap (λ (d : ℤ). record { state = r .state; level = r .level; dsv = d; sectors = a .sectors; closed = a .closed; peak = a .peak })
     (toZ-ofZ w64 (c .signed-of .result) (record { sfits = c .signed-of .ok }) ∙ c .signed-of .ensures)
 
 pub record-of-spec : {M : Type 1} → statement M

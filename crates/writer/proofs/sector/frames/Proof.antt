@@ -1,7 +1,7 @@
 -- `writer::sector::frames` meets its contract: each turn lays one frame more.
 -- Assumes nothing.
-use mathlib.Core.Path.{_≡_}
-use Prim.Native.Nat.{_-_, _≤_}
+use mathlib.Core.Path.{_≡_, ap, _∙_}
+use Prim.Native.Nat.{_-_, _≤_, max}
 use native.Mathlib.Omega.{arith}
 use lib.ListN.{length}
 use Rattle.lists.proofs.Bytes.{bytes-of}
@@ -11,15 +11,15 @@ use Rattle.writer.proofs.sector.frames.Statement.{statement}
 use Rattle.writer.proofs.sector.frames.Tie as tie
 
 abbrev Inv-loop : tie.InvT-loop
-Inv-loop words substitutes syncs levels bytes stream1₀ stream2₀ out₀ codes running₀ k₀ stream1 stream2 out running k =
+Inv-loop words substitutes syncs levels held bytes stream1₀ stream2₀ out₀ codes running₀ peak₀ k₀ stream1 stream2 out running peak k =
     (k ≤ sectorFrames)
     × ((length stream1 ≡ frameStream)
     × ((length stream2 ≡ frameStream)
     × ((length out ≡ sectorStream)
-    × Laying running₀ running bytes out k)))
+    × Laying running₀ running peak₀ peak bytes out k)))
 
 abbrev μ-loop : tie.MeasureT-loop
-μ-loop words substitutes syncs levels bytes stream1₀ stream2₀ out₀ codes running₀ k₀ stream1 stream2 out running k = sectorFrames - k
+μ-loop words substitutes syncs levels held bytes stream1₀ stream2₀ out₀ codes running₀ peak₀ k₀ stream1 stream2 out running peak k = sectorFrames - k
 
 frame-codes-requires : tie.Need-frame-codes-requires Inv-loop μ-loop
 frame-codes-requires c κs = tt
@@ -47,6 +47,12 @@ frame-requires c κs =
     let begins = frame-begins sector (laid .1) (omega arith) bytes (v .1 .0) (v .1 .1 .0) (laid .0) in
     (asked .0, (asked .1 .0, (asked .1 .1 .0, (asked .1 .1 .1 .0, (coded .frame-codes .ensures, begins)))))
 
+absolute-requires : tie.Need-absolute-requires Inv-loop μ-loop
+absolute-requires c κs = tt
+
+higher-requires : tie.Need-higher-requires Inv-loop μ-loop
+higher-requires c κs = tt
+
 add-k : tie.Need-add-k Inv-loop μ-loop
 add-k c = omega arith
 
@@ -55,17 +61,25 @@ loop-less c = omega arith
 
 loop-again : tie.Need-loop-again Inv-loop μ-loop
 loop-again c =
-    let back = c .before .before .before .before in
-    let framed = back .before .before in
+    let measured = c .before in
+    let out = measured .before .before in
+    let back = out .before .before .before .before in
+    let framed = back .before in
     let lent = framed .before .before .before .before in
     let turn = lent .before .before in
-    let v = turn .loop .inv in (
-      omega (arith, lent .before .loop-test .taken),
+    let start = turn .before .before .before .before .before .before in
+    let v = turn .loop .inv in
+    let k = lent .before .loop-test .taken in
+    let peak = c .higher .ensures ∙ ap (max (turn .loop .peak)) (measured .absolute .ensures) in (
+      omega (arith, k),
       (
-        omega (arith, v .1 .0, back .before .stream1 .given),
+        omega (arith, v .1 .0, back .stream1 .given),
         (
-          omega (arith, v .1 .1 .0, c .before .before .before .stream2 .given),
-          (omega (arith, v .1 .1 .1 .0, c .before .out .given), laying-more (v .1 .1 .1 .1) (framed .frame .ensures)),
+          omega (arith, v .1 .1 .0, out .before .before .stream2 .given),
+          (
+            omega (arith, v .1 .1 .1 .0, out .out .given),
+            laying-more (v .1 .1 .1 .1) (framed .frame .ensures) peak (omega (arith, k, start .pre .1 .1 .1 .1 .0 .bytes)),
+          ),
         ),
       ),
     )
@@ -106,6 +120,8 @@ frames-spec =
     frame-codes-requires
     loop-holds
     frame-requires
+    absolute-requires
+    higher-requires
     add-k
     loop-less
     loop-again
