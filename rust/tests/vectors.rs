@@ -85,6 +85,7 @@ fn closings() {
             dsv: number(3),
             sectors: 16,
             closed: false,
+            peak: number(3).unsigned_abs(),
         };
         let mut out = [0; CLOSING];
         let writer = Writer::from_record(open, None).close(&mut out).unwrap();
@@ -94,8 +95,8 @@ fn closings() {
             state: 1,
             level: level(7),
             dsv: number(8),
-            sectors: 16,
             closed: true,
+            ..open
         };
         assert_eq!(writer.record(), closed, "{line}");
     }

@@ -110,7 +110,8 @@ fn frames(
     requires { ⌜ length (now stream1) ≡ frameStream ⌝ }
     requires { ⌜ length (now stream2) ≡ frameStream ⌝ }
     ensures running { λ r. ⌜ r .running ≡ sectorOf start (now (bytes .entry)) .running ⌝ }
-    ensures peak { λ r. ⌜ r .peak ≡ max held (peakOf start (sectorOf start (now (bytes .entry)) .halves) sectorFrames) ⌝ }
+    ensures peak { λ r. ⌜ r .peak
+        ≡ max held (peakOf start (sectorOf start (now (bytes .entry)) .halves) sectorFrames) ⌝ }
     ensures laid { λ r. ⌜ now (out .exit) ≡ packed (sectorOf start (now (bytes .entry)) .halves) ⌝ }
 {
     let codes = layout::frame_codes();
@@ -139,7 +140,8 @@ fn frames(
 pub(crate) fn sector(start: Running, held: u64, bytes: &[u8], out: &mut [u8]) -> Reached
     requires { ⌜ SectorBegins start (now bytes) (now out) ⌝ }
     ensures running { λ r. ⌜ r .running ≡ sectorOf start (now (bytes .entry)) .running ⌝ }
-    ensures peak { λ r. ⌜ r .peak ≡ max held (peakOf start (sectorOf start (now (bytes .entry)) .halves) sectorFrames) ⌝ }
+    ensures peak { λ r. ⌜ r .peak
+        ≡ max held (peakOf start (sectorOf start (now (bytes .entry)) .halves) sectorFrames) ⌝ }
     ensures laid { λ r. ⌜ now (out .exit) ≡ packed (sectorOf start (now (bytes .entry)) .halves) ⌝ }
 {
     let words = annexg::main_table();
