@@ -25,7 +25,7 @@ framesOf r bs (suc n) =
 abbrev pub sectorOf : Running → List ℕ → Stream
 sectorOf r bs = framesOf r bs sectorFrames
 
--- the first n sectors of a block of the bytes bs, 2,366 bytes a sector
+-- the first n sectors of the bytes bs, a block's or any, 2,366 bytes a sector
 unfoldable pub sectorsOf : Running → List ℕ → ℕ → Stream
 sectorsOf r bs zero = fresh r
 sectorsOf r bs (suc n) =

@@ -1,4 +1,5 @@
--- The writer's record, and what a sector, a block's sectors and the closing code make of it (document 01, "The choice between two streams").
+-- The writer's record, and what a sector, a block's sectors and the closing code make of it (document 01, "The choice between two streams"; document 02,
+-- request 4, for the peak).
 -- Assumes nothing.
 use mathlib.Core.Bool.{Bool, true, false}
 use mathlib.Core.List.{List}
@@ -33,7 +34,8 @@ runningOf w = record { state = w .state; level = w .level; dsv = offset (w .dsv)
 abbrev pub recordOf : Running → ℕ → ℕ → Bool → Record
 recordOf r p n c = record { state = r .state; level = r .level; dsv = signed (r .dsv); sectors = n; closed = c; peak = p }
 
--- the peak after n sectors of the stream m: the greatest at the ends of their 26 frames each, and what the record held (document 02, request 4)
+-- the peak after n sectors of the stream m: the greatest of what the record held and of the absolute DSVs at the ends of their frames, 26 a sector
+-- (document 02, request 4)
 abbrev pub peakAfter : Record → Stream → ℕ → ℕ
 peakAfter w m n = max (w .peak) (peakOf (runningOf w) (m .halves) (sectorFrames * n))
 

@@ -1,5 +1,5 @@
 -- Calls of the writer one after the other, each with the record that the call before it handed back. The laws are about these:
---   sectorCalls              the sectors of a block
+--   sectorCalls              sectors, as those of a block
 --   runCalls, NoneRefused    the sectors of a run and closing, and that nothing is refused
 --   Handed                   a record that the writer hands back
 -- Assumes nothing.
@@ -18,11 +18,11 @@ pub record Session : Type 0 where
   pub bytes : List ℕ
   pub next : Record
 
--- the bytes of sector k of a block
+-- the bytes of sector k of the bytes bs
 abbrev pub sectorAt : List ℕ → ℕ → List ℕ
 sectorAt bs k = take sectorSize (drop (sectorSize * k) bs)
 
--- the first n sectors of a block of the bytes bs, from the record w; outs k is what the buffer lent for sector k holds before
+-- the first n sectors of the bytes bs, a block's or any, from the record w; outs k is what the buffer lent for sector k holds before
 unfoldable pub sectorCalls : Record → List ℕ → (ℕ → List ℕ) → ℕ → Session
 sectorCalls w bs outs zero = record { bytes = []; next = w }
 sectorCalls w bs outs (suc n) =

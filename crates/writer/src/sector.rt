@@ -80,6 +80,7 @@ fn frame(
     shown.running
 }
 
+// The higher of two peaks.
 fn higher(one: u64, two: u64) -> u64
     ensures { λ r. ⌜ r ≡ max one two ⌝ }
 {
