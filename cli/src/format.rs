@@ -74,6 +74,14 @@ impl Made {
     }
 }
 
+/// The last line, which operators log: the DSV is that after the closing code, which the peak does not count.
+fn summary(blocks: usize, record: &Record) -> String {
+    let Record {
+        sectors, dsv, peak, ..
+    } = record;
+    format!("blocks {blocks} sectors {sectors} dsv {dsv} peak {peak}")
+}
+
 pub fn run(chosen: &Format) -> Result<Ending, Failure> {
     let (first, info) = (chosen.first, chosen.info);
     let image = Input::open(&chosen.image)?;
@@ -110,11 +118,6 @@ pub fn run(chosen: &Format) -> Result<Ending, Failure> {
         1 => say("filled up with 1 zero sector"),
         more => say(format!("filled up with {more} zero sectors")),
     }
-    let Record {
-        sectors, dsv, peak, ..
-    } = record;
-    say(format!(
-        "blocks {blocks} sectors {sectors} dsv {dsv} peak {peak}"
-    ));
+    say(summary(blocks, &record));
     Ok(Ending::Done)
 }
