@@ -3,7 +3,7 @@
 --   peak-limit, end-below             how high it can be; the DSV at the end of the last frame is not above it
 --   frames-peak, sectors-peak, run-peak   over one frame, one sector or one block more; the closing code ends no frame and does not count
 -- Assumes nothing.
-use mathlib.Core.Path.{_≡_, refl, sym, ap, ap₂, subst, _∙_}
+use mathlib.Core.Path.{_≡_, refl, sym, ap, ap₂, subst, _∙_, _≡⟨_⟩_, _∎}
 use mathlib.Core.List.{List, [], _∷_, _++_, append-nil}
 use mathlib.Core.Logic.{_⊎_, inl, inr}
 use Prim.Native.Nat.{ℕ, zero, suc, _+_, _*_, _<_, _≤_, max}
@@ -95,20 +95,29 @@ pub max-assoc : (a b c : ℕ) → max (max a b) c ≡ max a (max b c)
 max-assoc a b c = omega arith
 
 module _ (r : Running) (s : ℕ) (gs hs : List ℕ) (n : ℕ) (e : length gs ≡ frameHalves * n) where
-  swing-after : (j : ℕ) → swingAt r (gs ++ hs) (n + j) ≡ swingAt (runningAfter r s gs) hs j
+  -- the running record between the two
+  abbrev between : Running
+  between = runningAfter r s gs
+
+  swing-after : (j : ℕ) → swingAt r (gs ++ hs) (n + j) ≡ swingAt between hs j
   swing-after j =
       let rest = take (frameHalves * suc j) hs in
       let count : frameHalves * suc (n + j) ≡ length gs + frameHalves * suc j = omega arith in
       ap (λ (x : List ℕ). magnitude (runningAfter r s x .dsv)) (ap (λ (x : ℕ). take x (gs ++ hs)) count ∙ take-append-add gs hs (frameHalves * suc j))
       ∙ ap (λ (x : Running). magnitude (x .dsv)) (sym (running-append r s s gs rest))
 
-  peak-append : (j : ℕ) → peakOf r (gs ++ hs) (n + j) ≡ max (peakOf r gs n) (peakOf (runningAfter r s gs) hs j)
+  peak-append : (j : ℕ) → peakOf r (gs ++ hs) (n + j) ≡ max (peakOf r gs n) (peakOf between hs j)
   unfolding peakOf
-  peak-append zero = ap (peakOf r (gs ++ hs)) (add-zero n) ∙ peak-front r gs hs n (omega arith) ∙ sym (max-zero (peakOf r gs n))
+  peak-append zero =
+      peakOf r (gs ++ hs) (n + 0) ≡⟨ ap (peakOf r (gs ++ hs)) (add-zero n) ⟩
+      peakOf r (gs ++ hs) n ≡⟨ peak-front r gs hs n (omega arith) ⟩
+      peakOf r gs n ≡⟨ sym (max-zero (peakOf r gs n)) ⟩
+      max (peakOf r gs n) 0 ∎
   peak-append (suc j) =
-      ap (peakOf r (gs ++ hs)) (add-suc n j)
-      ∙ ap₂ max (peak-append j) (swing-after j)
-      ∙ max-assoc (peakOf r gs n) (peakOf (runningAfter r s gs) hs j) (swingAt (runningAfter r s gs) hs j)
+      peakOf r (gs ++ hs) (n + suc j) ≡⟨ ap (peakOf r (gs ++ hs)) (add-suc n j) ⟩
+      max (peakOf r (gs ++ hs) (n + j)) (swingAt r (gs ++ hs) (n + j)) ≡⟨ ap₂ max (peak-append j) (swing-after j) ⟩
+      max (max (peakOf r gs n) (peakOf between hs j)) (swingAt between hs j) ≡⟨ max-assoc (peakOf r gs n) (peakOf between hs j) (swingAt between hs j) ⟩
+      max (peakOf r gs n) (max (peakOf between hs j) (swingAt between hs j)) ∎
 
 -- ---- streams that are laid
 

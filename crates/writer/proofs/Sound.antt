@@ -37,9 +37,18 @@ limitOf w = sectorBits * w .sectors + 32 * bit (w .closed)
 abbrev aboveOf : Record → ℕ
 aboveOf w = w .peak + 32 * bit (w .closed)
 
--- what number 9 asks of DSV and peak
+-- what number 9 asks of DSV and peak, a clause each
+abbrev dsvInRange : Record → Bool
+dsvInRange w = leb (natAbs (w .dsv)) (limitOf w)
+
+abbrev dsvBelowPeak : Record → Bool
+dsvBelowPeak w = leb (natAbs (w .dsv)) (aboveOf w)
+
+abbrev peakInRange : Record → Bool
+peakInRange w = leb (w .peak) (sectorBits * w .sectors)
+
 abbrev inRange : Record → Bool
-inRange w = leb (natAbs (w .dsv)) (limitOf w) && (leb (natAbs (w .dsv)) (aboveOf w) && leb (w .peak) (sectorBits * w .sectors))
+inRange w = dsvInRange w && (dsvBelowPeak w && peakInRange w)
 
 pub sound-by :
     (w : Record) (a b c d e f : Bool) → leb 1 (w .state) ≡ a → leb (w .state) 4 ≡ b → leb (w .level) 1 ≡ c
@@ -59,32 +68,25 @@ sound-rest w p q r s e f t u =
 -- a peak over 38,688 times the sectors
 pub peak-over : (w : Record) → sectorBits * w .sectors < w .peak → inRange w ≡ false
 peak-over w h =
-    let dsv = leb (natAbs (w .dsv)) (limitOf w) in
-    let above = leb (natAbs (w .dsv)) (aboveOf w) in
-    ap (λ (x : Bool). dsv && (above && x)) (lt-leb (w .peak) (sectorBits * w .sectors) h)
-    ∙ ap (λ (x : Bool). dsv && x) (and-false above)
-    ∙ and-false dsv
+    ap (λ (x : Bool). dsvInRange w && (dsvBelowPeak w && x)) (lt-leb (w .peak) (sectorBits * w .sectors) h)
+    ∙ ap (λ (x : Bool). dsvInRange w && x) (and-false (dsvBelowPeak w))
+    ∙ and-false (dsvInRange w)
 
 -- a DSV beyond 2^40 is beyond every limit
 pub too-far : (w : Record) → w .sectors ≤ runSectors → leb (natAbs (w .dsv)) zeroAt ≡ false → inRange w ≡ false
 too-far w h e =
     let far = lt-leb (natAbs (w .dsv)) (limitOf w) (omega (arith, leb-false (natAbs (w .dsv)) zeroAt e, bit-le (w .closed))) in
-    ap (λ (x : Bool). x && (leb (natAbs (w .dsv)) (aboveOf w) && leb (w .peak) (sectorBits * w .sectors))) far
+    ap (λ (x : Bool). x && (dsvBelowPeak w && peakInRange w)) far
 
 -- a DSV that is not above a peak in its range is in its own range
-pub dsv-by-peak : (w : Record) → w .peak ≤ sectorBits * w .sectors → leb (natAbs (w .dsv)) (aboveOf w) ≡ inRange w
-dsv-by-peak w h = by (leb (natAbs (w .dsv)) (aboveOf w)) refl
+pub dsv-by-peak : (w : Record) → w .peak ≤ sectorBits * w .sectors → dsvBelowPeak w ≡ inRange w
+dsv-by-peak w h = by (dsvBelowPeak w) refl
   where
-    peak : leb (w .peak) (sectorBits * w .sectors) ≡ true
-    peak = le-leb (w .peak) (sectorBits * w .sectors) h
-
-    by : (x : Bool) → leb (natAbs (w .dsv)) (aboveOf w) ≡ x → x ≡ inRange w
+    by : (x : Bool) → dsvBelowPeak w ≡ x → x ≡ inRange w
     by true e =
         let dsv = le-leb (natAbs (w .dsv)) (limitOf w) (omega (arith, leb-true (natAbs (w .dsv)) (aboveOf w) e)) in
-        sym (ap₂ _&&_ dsv (ap₂ _&&_ e peak))
-    by false e =
-        let dsv = leb (natAbs (w .dsv)) (limitOf w) in
-        sym (ap (λ (x : Bool). dsv && (x && leb (w .peak) (sectorBits * w .sectors))) e ∙ and-false dsv)
+        sym (ap₂ _&&_ dsv (ap₂ _&&_ e (le-leb (w .peak) (sectorBits * w .sectors) h)))
+    by false e = sym (ap (λ (x : Bool). dsvInRange w && (x && peakInRange w)) e ∙ and-false (dsvInRange w))
 
 pub sector-by :
     (w : Record) (from to : ℕ) (a b c d : Bool) → eqb from sectorSize ≡ a → eqb to sectorStream ≡ b → sound w ≡ c → ended w 1 ≡ d
@@ -169,48 +171,44 @@ module _ (w : Record) where
   b₄ = not (w .closed) || closes (w .sectors)
 
   b₅ : Bool
-  b₅ = leb (natAbs (w .dsv)) (limitOf w)
-
-  b₆ : Bool
-  b₆ = leb (natAbs (w .dsv)) (aboveOf w)
-
-  b₇ : Bool
-  b₇ = leb (w .peak) (sectorBits * w .sectors)
+  b₅ = inRange w
 
   pub sound-is : T (sound w) → Sound w
-  unfolding sound b₁ b₂ b₃ b₄ b₅ b₆ b₇
+  unfolding sound b₁ b₂ b₃ b₄ b₅
   sound-is t =
-      let t₁ = and-left b₁ (b₂ && (b₃ && (b₄ && (b₅ && (b₆ && b₇))))) t in
-      let u₁ = and-right b₁ (b₂ && (b₃ && (b₄ && (b₅ && (b₆ && b₇))))) t in
-      let u₂ = and-right b₂ (b₃ && (b₄ && (b₅ && (b₆ && b₇)))) u₁ in
-      let u₃ = and-right b₃ (b₄ && (b₅ && (b₆ && b₇))) u₂ in
-      let u₄ = and-right b₄ (b₅ && (b₆ && b₇)) u₃ in
-      let u₅ = and-right b₅ (b₆ && b₇) u₄ in
+      let t₁ = and-left b₁ (b₂ && (b₃ && (b₄ && b₅))) t in
+      let u₁ = and-right b₁ (b₂ && (b₃ && (b₄ && b₅))) t in
+      let u₂ = and-right b₂ (b₃ && (b₄ && b₅)) u₁ in
+      let u₃ = and-right b₃ (b₄ && b₅) u₂ in
+      let range = and-right b₄ b₅ u₃ in
+      let by-peak = and-right (dsvInRange w) (dsvBelowPeak w && peakInRange w) range in
       record {
         state =
             record {
               low = leb→le 1 (w .state) (and-left (leb 1 (w .state)) (leb (w .state) 4) t₁);
               high = leb→le (w .state) 4 (and-right (leb 1 (w .state)) (leb (w .state) 4) t₁);
             };
-        level = omega (arith, leb→le (w .level) 1 (and-left b₂ (b₃ && (b₄ && (b₅ && (b₆ && b₇)))) u₁));
-        sectors = leb→le (w .sectors) runSectors (and-left b₃ (b₄ && (b₅ && (b₆ && b₇))) u₂);
-        whole = closed-with (w .closed) (closes (w .sectors)) (and-left b₄ (b₅ && (b₆ && b₇)) u₃);
-        dsv = leb→le (natAbs (w .dsv)) (limitOf w) (and-left b₅ (b₆ && b₇) u₄);
-        above = leb→le (natAbs (w .dsv)) (aboveOf w) (and-left b₆ b₇ u₅);
-        peak = leb→le (w .peak) (sectorBits * w .sectors) (and-right b₆ b₇ u₅);
+        level = omega (arith, leb→le (w .level) 1 (and-left b₂ (b₃ && (b₄ && b₅)) u₁));
+        sectors = leb→le (w .sectors) runSectors (and-left b₃ (b₄ && b₅) u₂);
+        whole = closed-with (w .closed) (closes (w .sectors)) (and-left b₄ b₅ u₃);
+        dsv = leb→le (natAbs (w .dsv)) (limitOf w) (and-left (dsvInRange w) (dsvBelowPeak w && peakInRange w) range);
+        above = leb→le (natAbs (w .dsv)) (aboveOf w) (and-left (dsvBelowPeak w) (peakInRange w) by-peak);
+        peak = leb→le (w .peak) (sectorBits * w .sectors) (and-right (dsvBelowPeak w) (peakInRange w) by-peak);
       }
 
   pub is-sound : Sound w → T (sound w)
-  unfolding sound b₁ b₂ b₃ b₄ b₅ b₆ b₇
+  unfolding sound b₁ b₂ b₃ b₄ b₅
   is-sound s =
       let low = le→leb 1 (w .state) (s .state .low) in
       let high = le→leb (w .state) 4 (s .state .high) in
-      and-both b₁ (b₂ && (b₃ && (b₄ && (b₅ && (b₆ && b₇))))) (and-both (leb 1 (w .state)) (leb (w .state) 4) low high)
-      (and-both b₂ (b₃ && (b₄ && (b₅ && (b₆ && b₇)))) (le→leb (w .level) 1 (omega (arith, s .level)))
-      (and-both b₃ (b₄ && (b₅ && (b₆ && b₇))) (le→leb (w .sectors) runSectors (s .sectors))
-      (and-both b₄ (b₅ && (b₆ && b₇)) (with-closed (w .closed) (closes (w .sectors)) (s .whole))
-      (and-both b₅ (b₆ && b₇) (le→leb (natAbs (w .dsv)) (limitOf w) (s .dsv))
-      (and-both b₆ b₇ (le→leb (natAbs (w .dsv)) (aboveOf w) (s .above)) (le→leb (w .peak) (sectorBits * w .sectors) (s .peak)))))))
+      let above = le→leb (natAbs (w .dsv)) (aboveOf w) (s .above) in
+      let peak = le→leb (w .peak) (sectorBits * w .sectors) (s .peak) in
+      let by-peak = and-both (dsvBelowPeak w) (peakInRange w) above peak in
+      and-both b₁ (b₂ && (b₃ && (b₄ && b₅))) (and-both (leb 1 (w .state)) (leb (w .state) 4) low high)
+      (and-both b₂ (b₃ && (b₄ && b₅)) (le→leb (w .level) 1 (omega (arith, s .level)))
+      (and-both b₃ (b₄ && b₅) (le→leb (w .sectors) runSectors (s .sectors))
+      (and-both b₄ b₅ (with-closed (w .closed) (closes (w .sectors)) (s .whole))
+      (and-both (dsvInRange w) (dsvBelowPeak w && peakInRange w) (le→leb (natAbs (w .dsv)) (limitOf w) (s .dsv)) by-peak))))
 
   module _ (s : Sound w) where
     pub near : natAbs (w .dsv) ≤ zeroAt
