@@ -22,7 +22,7 @@ use Rattle.levels.specs.declared.Running.{Running}
 use Rattle.streams.specs.Frames.{sectorOf, closingOf}
 use Rattle.streams.specs.Peak.{peakOf}
 use Rattle.streams.proofs.Range.{sector-near, closing-near}
-use Rattle.writer.specs.Answers.{closes, sound, ended, sectorRefusal, blockRefusal, closingRefusal, sectorNext, sectorOut, closingNext, closingOut}
+use Rattle.writer.specs.Answers.{closes, inRange, sound, ended, sectorRefusal, blockRefusal, closingRefusal, sectorNext, sectorOut, closingNext, closingOut}
 use Rattle.writer.specs.Inner.{SectorBegins}
 use Rattle.writer.specs.Records.{runningOf, recordOf, afterSector, afterClosing}
 use Rattle.writer.specs.declared.Record.{Record}
@@ -46,9 +46,6 @@ dsvBelowPeak w = leb (natAbs (w .dsv)) (aboveOf w)
 
 abbrev peakInRange : Record → Bool
 peakInRange w = leb (w .peak) (sectorBits * w .sectors)
-
-abbrev inRange : Record → Bool
-inRange w = dsvInRange w && (dsvBelowPeak w && peakInRange w)
 
 pub sound-by :
     (w : Record) (a b c d e f : Bool) → leb 1 (w .state) ≡ a → leb (w .state) 4 ≡ b → leb (w .level) 1 ≡ c

@@ -29,18 +29,23 @@ answerNumber BadRecord = 9
 abbrev pub closes : ℕ → Bool
 closes n = leb 1 n && eqb (n % sectorCount) 0
 
--- a record that number 9 does not refuse: State 1 to 4, level 0 or 1, at most 16,777,216 sectors, closed only at a count at which closing is accepted, the
--- absolute DSV at most 38,688 times the sectors, and 32 more if closed; the peak not below the absolute DSV, or not by more than 32 if closed, and at most 38,688
--- times the sectors (document 02, request 4)
+-- DSV and peak that number 9 does not refuse: the absolute DSV at most 38,688 times the sectors, and 32 more if closed; the peak not below the
+-- absolute DSV, or not by more than 32 if closed, and at most 38,688 times the sectors (document 02, request 4)
+abbrev pub inRange : Record → Bool
+inRange w =
+    leb (natAbs (w .dsv)) (sectorBits * w .sectors + 32 * bit (w .closed))
+    && (leb (natAbs (w .dsv)) (w .peak + 32 * bit (w .closed))
+    && leb (w .peak) (sectorBits * w .sectors))
+
+-- a record that number 9 does not refuse: State 1 to 4, level 0 or 1, at most 16,777,216 sectors, closed only at a count at which closing is accepted, DSV and
+-- peak in range
 unfoldable pub sound : Record → Bool
 sound w =
     inside 1 4 (w .state)
     && (leb (w .level) 1
     && (leb (w .sectors) runSectors
     && ((not (w .closed) || closes (w .sectors))
-    && (leb (natAbs (w .dsv)) (sectorBits * w .sectors + 32 * bit (w .closed))
-    && (leb (natAbs (w .dsv)) (w .peak + 32 * bit (w .closed))
-    && leb (w .peak) (sectorBits * w .sectors))))))
+    && inRange w)))
 
 -- n sectors more can't follow: the closing code is written, or they would go over number 16,777,216 of the run
 abbrev pub ended : Record → ℕ → Bool

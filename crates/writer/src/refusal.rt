@@ -8,7 +8,7 @@ ghost use Rattle.lists.specs.Count.{bit};
 ghost use Rattle.layout.specs.Lengths.{sectorBits, runSectors};
 ghost use Rattle.levels.specs.Level.{zeroAt};
 ghost use Rattle.writer.specs.Records.{offset, signed, runningOf, recordOf};
-ghost use Rattle.writer.specs.Answers.{answerNumber, closes, sound, sectorRefusal, blockRefusal, closingRefusal};
+ghost use Rattle.writer.specs.Answers.{answerNumber, closes, inRange, sound, sectorRefusal, blockRefusal, closingRefusal};
 use super::Answer;
 use super::Record;
 use layout::CLOSING_SIZE;
@@ -118,7 +118,22 @@ fn is_whole(closed: bool, sectors: u32) -> bool
     true
 }
 
-// Number 9 does not refuse the record. Where the peak is in range and the DSV not above it, the DSV is in its own range too.
+// Number 9 does not refuse DSV and peak. Where the peak is in range and the DSV not above it, the DSV is in its own range too.
+fn is_in_range(current: Record) -> bool
+    requires { ⌜ current .sectors ≤ runSectors ⌝ }
+    ensures { λ r. ⌜ r ≡ inRange current ⌝ }
+{
+    let limit = highest_peak(current.sectors);
+    if limit < current.peak {
+        return false;
+    }
+    if !is_near(current.dsv) {
+        return false;
+    }
+    levels::absolute(offset_of(current.dsv)) <= highest_dsv(current.peak, current.closed)
+}
+
+// Number 9 does not refuse the record.
 fn is_sound(current: Record) -> bool
     ensures { λ r. ⌜ r ≡ sound current ⌝ }
 {
@@ -137,14 +152,7 @@ fn is_sound(current: Record) -> bool
     if !is_whole(current.closed, current.sectors) {
         return false;
     }
-    let limit = highest_peak(current.sectors);
-    if limit < current.peak {
-        return false;
-    }
-    if !is_near(current.dsv) {
-        return false;
-    }
-    levels::absolute(offset_of(current.dsv)) <= highest_dsv(current.peak, current.closed)
+    is_in_range(current)
 }
 
 // So many sectors more can't follow: the closing code is written, or they would go over the run's last number.
