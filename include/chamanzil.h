@@ -7,9 +7,9 @@
  * written (no `const`) overlaps no other argument; nor does a record. What was written is all of a buffer or nothing: no call leaves a half-filled buffer. A `bool`
  * is 0 or 1 and nothing else.
  *
- * Answers. 0: done. 1 to 10: refused, by the numbers below, and then every buffer and record is as it was, except where a function says otherwise. Where
- * several numbers apply, the lowest is given, but 10 goes right after 3, and 9 before 7 and 8. Where none applies, nothing is refused. Every refusal is below
- * 256; from 256 on are the outcomes of a call that was not refused.
+ * Answers. 0: done. 1 to 10, 12 and 13: refused, by the numbers below, and then every buffer and record is as it was, except where a function says otherwise.
+ * Where several numbers apply, the lowest is given, but 10 goes right after 3, and 9 before 7 and 8. Where none applies, nothing is refused. Every refusal is
+ * below 256; from 256 on are the outcomes of a call that was not refused.
  *
  * Runs. A run is a list of blocks that follow on: the first number of each is 16 more than that of the block before. Its stream has the sixteen sectors of each
  * block, CHAMANZIL_BLOCK_STREAM bytes a block, and the closing code after the last. Block k of it, from 0, is read from the CHAMANZIL_STREAM bytes at
@@ -73,7 +73,9 @@ enum {
     CHAMANZIL_ENDED = 7,          /* a sector after number 16,777,216 of the run, or anything after closing */
     CHAMANZIL_UNFINISHED = 8,     /* closing at no sectors, or at a count that is no multiple of 16 */
     CHAMANZIL_RECORD = 9,         /* a record that the writer never hands out */
-    CHAMANZIL_SEQUENCE = 10       /* the first number is not the previous block's first number plus 16 */
+    CHAMANZIL_SEQUENCE = 10,      /* the first number is not the previous block's first number plus 16 */
+    CHAMANZIL_NOT_TRIED = 12,     /* a take, and no trial is marked in the record */
+    CHAMANZIL_OTHER_DSV = 13      /* a take of a sector whose DSV is not the one that the trial gave */
 };
 
 /* ---- outcomes of a row or a column that was no code word, above every refusal */
@@ -103,7 +105,8 @@ uint32_t chamanzil_format_block(const uint8_t *main, size_t main_len, uint32_t f
  * A call that answers 0 leaves the next record there, and a refusal leaves it as it was. The members may be read, kept elsewhere and put back at any time. A
  * record that no writer hands out is refused with 9: a State that is not 1 to 4, a level that is not 0 or 1, more than CHAMANZIL_RUN_SECTORS sectors, closed at 0
  * or at a count that is no multiple of 16, a DSV over 38,688 a sector (and 32 if closed) to either side, a peak below the absolute DSV (by more than 32 if closed)
- * or over 38,688 a sector. `closed` holds 0 or 1 and nothing else. The bytes between the members have no meaning: compare members. */
+ * or over 38,688 a sector. The mark is not looked at for 9. `closed` and `marked` hold 0 or 1 and nothing else. The bytes between the members have no meaning:
+ * compare members. */
 struct chamanzil_record {
     uint8_t state;    /* the State prescribed next, 1 to 4 */
     uint8_t level;    /* the NRZI level, 0 or 1 */
@@ -111,25 +114,37 @@ struct chamanzil_record {
     uint32_t sectors; /* sectors of the run written, 0 to 16,777,216 */
     bool closed;      /* whether the closing code is written */
     uint64_t peak;    /* the greatest absolute DSV at the end of a Sync Frame so far, 0 before the first; the closing code does not count */
+    bool marked;      /* whether a trial is marked */
+    int64_t mark;     /* the DSV that it gave, 0 where none is marked */
 };
 
-/* The record before the first sector of a run: State 1, level 0, DSV 0, no sector, not closed, peak 0. What `kept` held does not matter, but for `closed`, which
- * holds 0 or 1 as always. */
+/* The record before the first sector of a run: State 1, level 0, DSV 0, no sector, not closed, peak 0, no mark. What `kept` held does not matter, but for `closed`
+ * and `marked`, which hold 0 or 1 as always. */
 void chamanzil_new_record(struct chamanzil_record *kept);
 
-/* A sector by the two-stream rule of clause 22. `bytes` has CHAMANZIL_SECTOR bytes (sector k of a block starts at byte 2366 k), `out` CHAMANZIL_SECTOR_STREAM.
- * 0, 1, 9 or 7. After 0 `out` holds the sector's code bits, eight to a byte, first bit highest, and `kept` the next record. After a refusal both are as they
- * were. The bytes are the caller's: what block they are of is not looked at. */
-uint32_t chamanzil_write_sector(struct chamanzil_record *kept, const uint8_t *bytes, size_t bytes_len, uint8_t *out, size_t out_len);
+/* A sector by the two-stream rule of clause 22, in two calls: a trial, and a take. `bytes` has CHAMANZIL_SECTOR bytes (sector k of a block starts at byte 2366 k),
+ * `out` CHAMANZIL_SECTOR_STREAM. The bytes are the caller's: what block they are of is not looked at.
+ *
+ * The trial writes nothing; `out` is the buffer that the take would fill, of which only the length is looked at. 0, 1, 9 or 7. After 0 `kept->mark` is the DSV after
+ * the sector, and the rest of `kept` is as it was; a second trial replaces the mark. After a refusal `kept` is as it was. */
+uint32_t chamanzil_trial(struct chamanzil_record *kept, const uint8_t *bytes, size_t bytes_len, const uint8_t *out, size_t out_len);
+
+/* The take. 0, 1, 9, 7, 12 or 13, in this order where several apply; of bytes that a trial from this record let pass, 0. After 0 `out` holds the sector's code bits,
+ * eight to a byte, first bit highest, and `kept` the next record, without a mark. After a refusal both are as they were, the mark too. */
+uint32_t chamanzil_take(struct chamanzil_record *kept, const uint8_t *bytes, size_t bytes_len, uint8_t *out, size_t out_len);
+
+/* The sixteen sectors of a block that is made, without trials. `block` has CHAMANZIL_BLOCK bytes, `out` CHAMANZIL_BLOCK_STREAM. 0, 1, 9 or 7, with 7 where sixteen
+ * more sectors do not fit. After 0 `out` holds the sectors and `kept` the record after them, without a mark. After a refusal both are as they were. */
+uint32_t chamanzil_write_sectors(struct chamanzil_record *kept, const uint8_t *block, size_t block_len, uint8_t *out, size_t out_len);
 
 /* A whole block of a run: the block maker, then sixteen sectors. `main` has CHAMANZIL_MAIN bytes, `out` CHAMANZIL_BLOCK_STREAM; `follows`, `previous`, `first`
  * and `info` are the block maker's. 0, 1, 2, 3, 10, 9 or 7, in this order where several apply: what the maker refuses, then what the writer refuses, with 7 where
  * sixteen more sectors do not fit. A count of sectors that is no multiple of 16 is refused by nothing. After 0 `out` holds the sixteen sectors and `kept` the
- * record after them. After a refusal both are as they were. */
+ * record after them, without a mark. After a refusal both are as they were. */
 uint32_t chamanzil_write_block(struct chamanzil_record *kept, bool follows, uint32_t previous, const uint8_t *main, size_t main_len, uint32_t first, uint8_t info, uint8_t *out, size_t out_len);
 
 /* The closing code after the last block of a run: SY0 of the class that the State prescribes, Primary or Secondary, whichever leaves the lower absolute DSV after
- * its 32 bits; the Primary where both leave the same. `out` has CHAMANZIL_CLOSING bytes. 0, 1, 9, 7 or 8, with `out` and `kept` as above. */
+ * its 32 bits; the Primary where both leave the same. `out` has CHAMANZIL_CLOSING bytes. 0, 1, 9, 7 or 8, with `out` and `kept` as above; a mark is dropped. */
 uint32_t chamanzil_close(struct chamanzil_record *kept, uint8_t *out, size_t out_len);
 
 /* ---- from a stream back to main data */

@@ -1,4 +1,4 @@
-/* Formats a block, damages its stream and reads it back, then writes a run of two blocks and reads each, by the calls of chamanzil.h. Exits with 1 where anything
+/* Formats a block, sector by sector with trials, damages its stream and reads it back, then writes a run of two blocks and reads each, by the calls of chamanzil.h. Exits with 1 where anything
  * differs from what is due. It is C99 and also C++: include/run compiles it as both. */
 #include "chamanzil.h"
 
@@ -31,19 +31,40 @@ static void fill_main(size_t k)
     }
 }
 
+/* The trial of sector k of the block: the DSV that it gives. A take before it is refused. */
+static int64_t try_sector(struct chamanzil_record *kept, size_t k, const uint8_t *out)
+{
+    static uint8_t none[CHAMANZIL_SECTOR_STREAM];
+    const uint8_t *bytes = block + k * CHAMANZIL_SECTOR;
+    struct chamanzil_record before = *kept;
+    uint32_t answer = chamanzil_take(kept, bytes, CHAMANZIL_SECTOR, none, sizeof none);
+    expect(answer == CHAMANZIL_NOT_TRIED && none[0] == 0, "a take without a trial");
+    answer = chamanzil_trial(kept, bytes, CHAMANZIL_SECTOR, out, CHAMANZIL_SECTOR_STREAM);
+    expect(answer == CHAMANZIL_DONE && kept->marked, "trial");
+    expect(kept->sectors == before.sectors && kept->dsv == before.dsv && kept->peak == before.peak, "a trial changes nothing but the mark");
+    kept->mark += 2;
+    answer = chamanzil_take(kept, bytes, CHAMANZIL_SECTOR, none, sizeof none);
+    expect(answer == CHAMANZIL_OTHER_DSV && none[0] == 0 && kept->marked, "a take of another DSV than the marked one");
+    kept->mark -= 2;
+    return kept->mark;
+}
+
 /* Block maker, sixteen sectors, closing code. */
 static void format(uint32_t first, uint8_t info)
 {
-    struct chamanzil_record kept = {0, 0, 0, 0, false, 0};
+    struct chamanzil_record kept = {0, 0, 0, 0, false, 0, true, 1};
     size_t k;
     chamanzil_new_record(&kept);
     expect(kept.state == 1 && kept.level == 0 && kept.dsv == 0 && kept.sectors == 0 && !kept.closed && kept.peak == 0, "a new record");
+    expect(!kept.marked && kept.mark == 0, "a new record has no mark");
     expect(chamanzil_encode_block(main_data, sizeof main_data, false, 0, first, info, block, sizeof block) == CHAMANZIL_DONE, "encode_block");
     for (k = 0; k < CHAMANZIL_SECTORS; k++) {
-        uint64_t before = kept.peak;
-        uint32_t answer = chamanzil_write_sector(&kept, block + k * CHAMANZIL_SECTOR, CHAMANZIL_SECTOR, stream + k * CHAMANZIL_SECTOR_STREAM, CHAMANZIL_SECTOR_STREAM);
-        expect(answer == CHAMANZIL_DONE && kept.sectors == k + 1, "write_sector");
-        expect(kept.peak >= before && kept.peak >= (uint64_t)llabs(kept.dsv), "the peak never falls, and the DSV is not above it");
+        struct chamanzil_record before = kept;
+        uint8_t *out = stream + k * CHAMANZIL_SECTOR_STREAM;
+        int64_t tried = try_sector(&kept, k, out);
+        uint32_t answer = chamanzil_take(&kept, block + k * CHAMANZIL_SECTOR, CHAMANZIL_SECTOR, out, CHAMANZIL_SECTOR_STREAM);
+        expect(answer == CHAMANZIL_DONE && kept.sectors == k + 1 && kept.dsv == tried && !kept.marked, "take");
+        expect(kept.peak >= before.peak && kept.peak >= (uint64_t)llabs(kept.dsv), "the peak never falls, and the DSV is not above it");
     }
     expect(chamanzil_close(&kept, stream + CHAMANZIL_SECTORS * CHAMANZIL_SECTOR_STREAM, CHAMANZIL_CLOSING) == CHAMANZIL_DONE, "close");
     expect(kept.sectors == CHAMANZIL_SECTORS && kept.closed, "the record after closing");
@@ -64,7 +85,7 @@ static void be_refused(void)
 /* Two blocks that follow on, and the closing code after the second. */
 static void write_run(uint32_t first)
 {
-    struct chamanzil_record kept = {0, 0, 0, 0, false, 0};
+    struct chamanzil_record kept = {0, 0, 0, 0, false, 0, false, 0};
     uint8_t *second = run + CHAMANZIL_BLOCK_STREAM;
     uint8_t *closing = run + 2 * CHAMANZIL_BLOCK_STREAM;
     uint32_t answer;
@@ -75,8 +96,10 @@ static void write_run(uint32_t first)
     fill_main(1);
     answer = chamanzil_write_block(&kept, true, first, main_data, sizeof main_data, first, 0x00, second, CHAMANZIL_BLOCK_STREAM);
     expect(answer == CHAMANZIL_SEQUENCE && kept.sectors == CHAMANZIL_SECTORS, "the same first number again");
-    answer = chamanzil_write_block(&kept, true, first, main_data, sizeof main_data, first + 16, 0x00, second, CHAMANZIL_BLOCK_STREAM);
-    expect(answer == CHAMANZIL_DONE && kept.sectors == 2 * CHAMANZIL_SECTORS, "the second block of a run");
+    answer = chamanzil_encode_block(main_data, sizeof main_data, true, first, first + 16, 0x00, block, sizeof block);
+    expect(answer == CHAMANZIL_DONE, "the second block of a run, made");
+    answer = chamanzil_write_sectors(&kept, block, sizeof block, second, CHAMANZIL_BLOCK_STREAM);
+    expect(answer == CHAMANZIL_DONE && kept.sectors == 2 * CHAMANZIL_SECTORS, "the second block of a run, written");
     expect(chamanzil_close(&kept, closing, CHAMANZIL_CLOSING) == CHAMANZIL_DONE && kept.closed, "closing a run of two blocks");
     expect(chamanzil_closing_holds(closing, CHAMANZIL_CLOSING) == 1, "the closing code");
     expect(chamanzil_closing_holds(run + 1, CHAMANZIL_CLOSING) == 0, "four bytes that are no closing code");
@@ -85,12 +108,12 @@ static void write_run(uint32_t first)
 /* The closing code and the record after it, from a record with whole blocks. */
 static void close_from(uint8_t state, int64_t dsv, uint8_t first, uint8_t second, int64_t after)
 {
-    struct chamanzil_record kept = {0, 0, 0, 16, false, 4};
+    struct chamanzil_record kept = {0, 0, 0, 16, false, 4, true, 1};
     uint8_t code[CHAMANZIL_CLOSING] = {0, 0, 0, 0};
     kept.state = state;
     kept.dsv = dsv;
     expect(chamanzil_close(&kept, code, sizeof code) == CHAMANZIL_DONE && kept.dsv == after, "the DSV after closing");
-    expect(kept.peak == 4, "the peak after closing, which does not count");
+    expect(kept.peak == 4 && !kept.marked && kept.mark == 0, "the peak after closing, which does not count, and no mark");
     expect(code[0] == first && code[1] == second && code[2] == 0x00 && code[3] == 0x11, "the closing code by the DSV");
 }
 
@@ -129,7 +152,7 @@ int main(void)
     format(0x030000, 0x00);
     expect(chamanzil_zero_runs_hold(stream, sizeof stream) == 1, "the zero runs");
     expect(chamanzil_format_block(main_data, sizeof main_data, 0x030000, 0x00, whole, sizeof whole) == CHAMANZIL_DONE, "format_block");
-    expect(memcmp(whole, stream, sizeof whole) == 0, "format_block is encode_block, write_sector and close");
+    expect(memcmp(whole, stream, sizeof whole) == 0, "format_block is encode_block, trials, takes and close");
 
     /* 8 rows of 372 bytes with wrong bits in each Code Word, and one bit in every 1,000 bytes */
     for (i = 0; i < 8 * 372; i++) {

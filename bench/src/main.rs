@@ -41,14 +41,27 @@ fn write_block(main: &[u8], k: u32, after: Record, stream: &mut [u8]) -> Record 
     record
 }
 
-/// The sectors from the record of a new run, and the closing code after the sixteenth.
+/// The sixteen sectors of a block from the record of a new run, and the closing code.
 fn write(block: &[u8], stream: &mut [u8]) {
     let mut record = Record::start();
-    for (bytes, laid) in block.chunks(SECTOR).zip(stream.chunks_mut(LAID)) {
-        assert_eq!(library::write_sector(&mut record, bytes, laid), 0);
+    assert_eq!(library::write_sectors(&mut record, block, &mut stream[..BLOCK_STREAM]), 0);
+    assert_eq!(library::close(&mut record, &mut stream[BLOCK_STREAM..]), 0);
+}
+
+/// Trials of sectors, none of which is taken.
+fn try_sectors(block: &[u8], stream: &[u8]) {
+    let mut record = Record::start();
+    for (bytes, laid) in block.chunks(SECTOR).zip(stream.chunks(LAID)) {
+        assert_eq!(library::trial(&mut record, bytes, laid), 0);
     }
-    if block.len() == BLOCK {
-        assert_eq!(library::close(&mut record, &mut stream[16 * LAID..]), 0);
+}
+
+/// A trial and a take of each sector.
+fn take_sectors(block: &[u8], stream: &mut [u8]) {
+    let mut record = Record::start();
+    for (bytes, laid) in block.chunks(SECTOR).zip(stream.chunks_mut(LAID)) {
+        assert_eq!(library::trial(&mut record, bytes, laid), 0);
+        assert_eq!(library::take(&mut record, bytes, laid), 0);
     }
 }
 
@@ -148,7 +161,11 @@ fn table(b: &mut Bench, random: &mut Random) {
     let [ours, theirs] = beside(b, nothing, |b| encode(&b.main, &mut b.work), |b| b.peer.parity(&mut b.work));
     assert!(b.work == b.block, "a parity differs");
     line("block maker", ours, Some(("parity", theirs)));
-    line("sector writer and closing", seconds(b, |b| write(&b.block, &mut b.laid)), None);
+    line("sixteen sectors and closing", seconds(b, |b| write(&b.block, &mut b.laid)), None);
+    line("sixteen trials", seconds(b, |b| try_sectors(&b.block, &b.laid)), None);
+    b.laid.fill(0);
+    line("sixteen trials and takes", seconds(b, |b| take_sectors(&b.block, &mut b.laid)), None);
+    assert!(b.laid[..BLOCK_STREAM] == b.stream[..BLOCK_STREAM], "a sector taken differs");
     let after = b.first_block();
     let second_block = |b: &mut Bench| assert_eq!(write_block(&b.main, 1, after, &mut b.laid).sectors, 32);
     line("block of a run: maker and sixteen sectors", seconds(b, second_block), None);
@@ -171,10 +188,10 @@ fn table(b: &mut Bench, random: &mut Random) {
 /// How the times grow: sectors of one block, and blocks that no cache holds together.
 fn growth(b: &mut Bench, random: &mut Random) {
     println!();
-    println!("| sectors | writer, µs | reader, µs |");
+    println!("| sectors | trials and takes, µs | reader, µs |");
     println!("|---|---|---|");
     for n in [1, 2, 4, 8, 16] {
-        let writer = seconds(b, |b| write(&b.block[..SECTOR * n], &mut b.laid));
+        let writer = seconds(b, |b| take_sectors(&b.block[..SECTOR * n], &mut b.laid));
         let reader = seconds(b, |b| read_sectors(&b.stream, &mut b.work[..SECTOR * n]));
         println!("| {n} | {:.0} | {:.0} |", 1e6 * writer, 1e6 * reader);
     }

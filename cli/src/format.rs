@@ -1,7 +1,5 @@
-//! `format`: an image to the stream of a run. Blocks are made ahead on other threads; the writer lays their sectors one after the other.
-use chamanzil::{
-    slices, Record, Refusal, BLOCK, BLOCK_STREAM, CLOSING, MAIN, SECTOR, SECTOR_MAIN, SECTOR_STREAM,
-};
+//! `format`: an image to the stream of a run. Blocks are made ahead on other threads; the writer lays their sectors one block after the other.
+use chamanzil::{slices, Record, Refusal, BLOCK, BLOCK_STREAM, CLOSING, MAIN, SECTOR_MAIN};
 
 use crate::arguments::Format;
 use crate::failure::{bytes, Failure, Refused};
@@ -69,8 +67,7 @@ impl Made {
     /// The writer's sixteen sectors.
     fn write(&self, record: &mut Record, stream: &mut [u8]) -> Result<(), Refusal> {
         let block = self.answer.as_ref().map_err(|refusal| *refusal)?;
-        let mut sectors = block.chunks(SECTOR).zip(stream.chunks_mut(SECTOR_STREAM));
-        sectors.try_for_each(|(bytes, out)| slices::write_sector(record, bytes, out))
+        slices::write_sectors(record, block, stream)
     }
 }
 

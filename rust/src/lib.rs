@@ -30,7 +30,7 @@ pub use words::{
     closing_holds, column_parity, correct_column, correct_row, ied, power, product, read_word,
     row_parity, zero_runs_hold, Outcome,
 };
-pub use writer::{Record, Writer};
+pub use writer::{Record, Trial, Writer};
 
 /// Main data bytes of a block: 16 sectors of 2,048.
 pub const MAIN: usize = 32_768;

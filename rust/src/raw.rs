@@ -47,10 +47,24 @@ extern "C" {
         out_len: usize,
     ) -> u32;
     pub fn chamanzil_new_record(kept: *mut Record);
-    pub fn chamanzil_write_sector(
+    pub fn chamanzil_trial(
         kept: *mut Record,
         bytes: *const u8,
         bytes_len: usize,
+        out: *const u8,
+        out_len: usize,
+    ) -> u32;
+    pub fn chamanzil_take(
+        kept: *mut Record,
+        bytes: *const u8,
+        bytes_len: usize,
+        out: *mut u8,
+        out_len: usize,
+    ) -> u32;
+    pub fn chamanzil_write_sectors(
+        kept: *mut Record,
+        block: *const u8,
+        block_len: usize,
         out: *mut u8,
         out_len: usize,
     ) -> u32;

@@ -1,7 +1,7 @@
 use std::error::Error;
 use std::fmt;
 
-/// What a call refuses, by the numbers of documents 01 and 02, 1 to 10.
+/// What a call refuses, by the numbers of documents 01 and 02: 1 to 10, 12 and 13.
 ///
 /// ```
 /// use chamanzil::{encode_block, Refusal, MAIN};
@@ -42,6 +42,10 @@ pub enum Refusal {
     Record,
     /// 10: the first number is not the previous block's first number plus 16.
     Sequence,
+    /// 12: a take, and no trial is marked in the record. A [`Trial`](crate::Trial) is never refused with it.
+    NotTried,
+    /// 13: a take of a sector whose DSV is not the one that the trial gave.
+    OtherDsv,
 }
 
 impl Refusal {
@@ -59,6 +63,8 @@ impl Refusal {
             Refusal::RunUnfinished => 8,
             Refusal::Record => 9,
             Refusal::Sequence => 10,
+            Refusal::NotTried => 12,
+            Refusal::OtherDsv => 13,
         }
     }
 
@@ -93,6 +99,8 @@ impl fmt::Display for Refusal {
             }
             Refusal::Record => ": the writer never hands out this record",
             Refusal::Sequence => ": the first number is not the previous block's plus 16",
+            Refusal::NotTried => ": no trial of a sector is marked",
+            Refusal::OtherDsv => ": the sector's DSV is not the one that the trial gave",
         })
     }
 }
@@ -114,6 +122,8 @@ pub(crate) fn answer(number: u32, frame: u32) -> Result<(), Refusal> {
         8 => Err(Refusal::RunUnfinished),
         9 => Err(Refusal::Record),
         10 => Err(Refusal::Sequence),
+        12 => Err(Refusal::NotTried),
+        13 => Err(Refusal::OtherDsv),
         other => unreachable!("no contract of crates/ffi gives {other}"),
     }
 }

@@ -62,19 +62,52 @@ pub fn format_block(main: &[u8], first: u32, info: u8, out: &mut [u8]) -> Result
     answer(number, 0)
 }
 
-/// The writer's sector: 2,366 bytes to 4,836. `record` becomes the next one.
+/// The trial of a sector of 2,366 bytes: the DSV after it, which `record` is marked with; the rest of it stays. `out` is the buffer that the take would fill, 4,836
+/// bytes, of which only the length is looked at.
+///
+/// ```
+/// use chamanzil::{slices, Record, Refusal, SECTOR, SECTOR_STREAM};
+/// let (bytes, mut out, mut record) = ([7; SECTOR], [0; SECTOR_STREAM], Record::new());
+/// assert_eq!(slices::take(&mut record, &bytes, &mut out), Err(Refusal::NotTried));
+/// let dsv = slices::trial(&mut record, &bytes, &out)?;
+/// assert_eq!((record.marked, record.mark, record.sectors), (true, dsv, 0));
+/// slices::take(&mut record, &bytes, &mut out)?;
+/// assert_eq!((record.marked, record.dsv, record.sectors), (false, dsv, 1));
+/// # Ok::<(), Refusal>(())
+/// ```
+///
+/// # Errors
+/// 1, 9 or 7, with `record` as it was.
+pub fn trial(record: &mut Record, bytes: &[u8], out: &[u8]) -> Result<i64, Refusal> {
+    let (to, size) = (out.as_ptr(), out.len());
+    let number = unsafe { raw::chamanzil_trial(record, bytes.as_ptr(), bytes.len(), to, size) };
+    answer(number, 0)?;
+    Ok(record.mark)
+}
+
+/// The take of a sector that was tried: 2,366 bytes to 4,836. `record` becomes the next one, without a mark.
+///
+/// # Errors
+/// 1, 9, 7, 12 or 13, with `record` and `out` as they were.
+pub fn take(record: &mut Record, bytes: &[u8], out: &mut [u8]) -> Result<(), Refusal> {
+    let (to, size) = (out.as_mut_ptr(), out.len());
+    let number = unsafe { raw::chamanzil_take(record, bytes.as_ptr(), bytes.len(), to, size) };
+    answer(number, 0)
+}
+
+/// The sixteen sectors of a block that is made, without trials: 37,856 bytes to 77,376. `record` becomes the one after them, without a mark.
 ///
 /// # Errors
 /// 1, 9 or 7, with `record` and `out` as they were.
-pub fn write_sector(record: &mut Record, bytes: &[u8], out: &mut [u8]) -> Result<(), Refusal> {
+pub fn write_sectors(record: &mut Record, block: &[u8], out: &mut [u8]) -> Result<(), Refusal> {
     let (to, size) = (out.as_mut_ptr(), out.len());
     let number =
-        unsafe { raw::chamanzil_write_sector(record, bytes.as_ptr(), bytes.len(), to, size) };
+        unsafe { raw::chamanzil_write_sectors(record, block.as_ptr(), block.len(), to, size) };
     answer(number, 0)
 }
 
 /// A whole block of a run: the block maker, then the writer's sixteen sectors. 32,768 main data bytes to 77,376. `previous` is the first number of the block before,
-/// none where the run begins. `record` becomes the one after the sixteenth of these sectors.
+/// none where the run begins. `record` becomes the one after the sixteenth of these sectors, without a mark.
 ///
 /// ```
 /// use chamanzil::{read_block, slices, Record, Refusal, BLOCK_STREAM, CLOSING, MAIN, STREAM};
@@ -123,7 +156,7 @@ pub fn write_block(
 }
 
 /// The closing code after the last block of a run, 4 bytes: the SY0 that leaves the lower absolute DSV, as [`Writer::close`](crate::Writer::close) has it. `record`
-/// becomes the next one.
+/// becomes the next one, without a mark.
 ///
 /// # Errors
 /// 1, 9, 7 or 8, with `record` and `out` as they were.

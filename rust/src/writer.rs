@@ -1,7 +1,7 @@
-use crate::{slices, Refusal, BLOCK_STREAM, CLOSING, MAIN, SECTOR, SECTOR_STREAM};
+use crate::{slices, Refusal, BLOCK, BLOCK_STREAM, CLOSING, MAIN, SECTOR, SECTOR_STREAM};
 
-/// The writer's record: the State prescribed next, the NRZI level, the DSV, the sectors of the run written, whether the closing code is written, and the peak.
-/// It lies in memory as `crates/writer` and C have it.
+/// The writer's record: the State prescribed next, the NRZI level, the DSV, the sectors of the run written, whether the closing code is written, the peak, and the
+/// mark of a trial. It lies in memory as `crates/writer` and C have it.
 #[repr(C)]
 #[derive(Clone, Copy, Debug, PartialEq, Eq, Hash)]
 pub struct Record {
@@ -17,6 +17,10 @@ pub struct Record {
     pub closed: bool,
     /// The greatest absolute DSV of the run at the end of any Sync Frame so far, 0 before the first. The closing code does not count.
     pub peak: u64,
+    /// Whether a trial is marked.
+    pub marked: bool,
+    /// The DSV that it gave, 0 where none is marked.
+    pub mark: i64,
 }
 
 impl Record {
@@ -30,6 +34,8 @@ impl Record {
             sectors: 0,
             closed: false,
             peak: 0,
+            marked: false,
+            mark: 0,
         }
     }
 }
@@ -117,7 +123,8 @@ impl Writer {
         self.previous
     }
 
-    /// A sector of a block, by the two-stream rule. The bytes are the caller's, and what block they are of is not looked at: [`previous`](Self::previous) stays.
+    /// Tries a sector of a block, by the two-stream rule, without writing it: the [`Trial`] tells the DSV after it, and takes it. The bytes are the caller's, and
+    /// what block they are of is not looked at: [`previous`](Self::previous) stays. Who does not want the sector goes on with the writer that he has.
     ///
     /// ```
     /// use chamanzil::{encode_block, Refusal, Writer, BLOCK_STREAM, MAIN, SECTOR, SECTOR_STREAM};
@@ -126,24 +133,52 @@ impl Writer {
     /// let block = encode_block(&[0; MAIN], None, 0, 0)?;
     /// let mut writer = Writer::new();
     /// for (sector, out) in block.chunks(SECTOR).zip(by_sectors.chunks_mut(SECTOR_STREAM)) {
-    ///     writer = writer.write_sector(sector.try_into().unwrap(), out.try_into().unwrap())?;
+    ///     let sector = sector.try_into().unwrap();
+    ///     let trial = writer.trial(sector)?;
+    ///     println!("the DSV would go to {}", trial.dsv());
+    ///     writer = trial.take(sector, out.try_into().unwrap())?;
     /// }
     /// assert_eq!((by_sectors, writer.record()), (by_block, whole.record()));
     /// # Ok::<(), Refusal>(())
     /// ```
     ///
     /// # Errors
+    /// 9 or 7.
+    pub fn trial(self, bytes: &[u8; SECTOR]) -> Result<Trial, Refusal> {
+        // of the buffer that a take would fill only the length is looked at
+        static UNREAD: [u8; SECTOR_STREAM] = [0; SECTOR_STREAM];
+        let Writer {
+            mut record,
+            previous,
+        } = self;
+        let dsv = slices::trial(&mut record, bytes, &UNREAD)?;
+        let tried = Writer { record, previous };
+        Ok(Trial { tried, dsv })
+    }
+
+    /// The sixteen sectors of a block that is made, without trials. What block it is of is not looked at: [`previous`](Self::previous) stays.
+    ///
+    /// ```
+    /// use chamanzil::{encode_block, Refusal, Writer, BLOCK_STREAM, MAIN};
+    /// let (mut one, mut other) = ([0; BLOCK_STREAM], [0; BLOCK_STREAM]);
+    /// let whole = Writer::new().write_block(&[0; MAIN], 0, 0, &mut one)?;
+    /// let writer = Writer::new().write_sectors(&*encode_block(&[0; MAIN], None, 0, 0)?, &mut other)?;
+    /// assert_eq!((one, whole.record()), (other, writer.record()));
+    /// # Ok::<(), Refusal>(())
+    /// ```
+    ///
+    /// # Errors
     /// 9 or 7, with `out` as it was.
-    pub fn write_sector(
+    pub fn write_sectors(
         self,
-        bytes: &[u8; SECTOR],
-        out: &mut [u8; SECTOR_STREAM],
+        block: &[u8; BLOCK],
+        out: &mut [u8; BLOCK_STREAM],
     ) -> Result<Self, Refusal> {
         let Writer {
             mut record,
             previous,
         } = self;
-        slices::write_sector(&mut record, bytes, out)?;
+        slices::write_sectors(&mut record, block, out)?;
         Ok(Writer { record, previous })
     }
 
@@ -203,6 +238,52 @@ impl Writer {
             previous,
         } = self;
         slices::close(&mut record, out)?;
+        Ok(Writer { record, previous })
+    }
+}
+
+/// A sector that a [`Writer`] tried: the DSV after it, and the writer that takes it. Taking is the only thing that it can do, so that no take is without a trial.
+///
+/// ```
+/// use chamanzil::{Refusal, Writer, SECTOR, SECTOR_STREAM};
+/// let mut out = [0; SECTOR_STREAM];
+/// let trial = Writer::new().trial(&[7; SECTOR])?;
+/// // other bytes with another DSV are refused, and the trial stands
+/// assert_eq!((trial.dsv(), Writer::new().trial(&[99; SECTOR])?.dsv()), (4, -2));
+/// assert_eq!(trial.take(&[99; SECTOR], &mut out), Err(Refusal::OtherDsv));
+/// assert_eq!(out, [0; SECTOR_STREAM]);
+/// let writer = trial.take(&[7; SECTOR], &mut out)?;
+/// assert_eq!((writer.record().dsv, writer.record().sectors), (trial.dsv(), 1));
+/// # Ok::<(), Refusal>(())
+/// ```
+#[must_use]
+#[derive(Clone, Copy, Debug, PartialEq, Eq, Hash)]
+pub struct Trial {
+    tried: Writer,
+    dsv: i64,
+}
+
+impl Trial {
+    /// The DSV after the sector.
+    #[must_use]
+    pub const fn dsv(self) -> i64 {
+        self.dsv
+    }
+
+    /// Writes the sector. The bytes are those that were tried; others pass where the DSV after them is the same.
+    ///
+    /// # Errors
+    /// 13, with `out` as it was.
+    pub fn take(
+        self,
+        bytes: &[u8; SECTOR],
+        out: &mut [u8; SECTOR_STREAM],
+    ) -> Result<Writer, Refusal> {
+        let Writer {
+            mut record,
+            previous,
+        } = self.tried;
+        slices::take(&mut record, bytes, out)?;
         Ok(Writer { record, previous })
     }
 }

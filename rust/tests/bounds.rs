@@ -348,6 +348,8 @@ fn any_record(numbers: &mut Numbers) -> Record {
             2 => numbers.next(),
             _ => dsv.unsigned_abs(),
         },
+        marked: numbers.below(2) == 0,
+        mark: i64::from_le_bytes(numbers.next().to_le_bytes()),
     }
 }
 
@@ -356,7 +358,15 @@ fn records() {
     let mut record = Record::new();
     sweep(&[SECTOR, SECTOR_STREAM], |b| {
         let [bytes, out] = b else { unreachable!() };
-        slices::write_sector(&mut record, bytes.lend(), out.lend())
+        slices::trial(&mut record, bytes.lend(), out.lend()).map(drop)
+    });
+    sweep(&[SECTOR, SECTOR_STREAM], |b| {
+        let [bytes, out] = b else { unreachable!() };
+        slices::take(&mut record, bytes.lend(), out.lend())
+    });
+    sweep(&[BLOCK, BLOCK_STREAM], |b| {
+        let [block, out] = b else { unreachable!() };
+        slices::write_sectors(&mut record, block.lend(), out.lend())
     });
     sweep(&[CLOSING], |b| slices::close(&mut record, b[0].lend()));
     assert_eq!(record, Record::new());
@@ -368,16 +378,26 @@ fn records() {
                 unreachable!()
             };
             let old = any_record(numbers);
-            let (mut written, mut closed) = (old, old);
-            let sector = slices::write_sector(&mut written, bytes.lend(), out.lend())
+            let (mut tried, mut closed) = (old, old);
+            let trial = slices::trial(&mut tried, bytes.lend(), out.lend())
+                .map_or_else(Refusal::number, |_| 0);
+            let mut written = tried;
+            let sector = slices::take(&mut written, bytes.lend(), out.lend())
                 .map_or_else(Refusal::number, |()| 0);
             let closing =
                 slices::close(&mut closed, four.lend()).map_or_else(Refusal::number, |()| 0);
             assert_eq!(
-                (sector, closing),
-                (due(old, 1), due_closing(old)),
+                (trial, sector, closing),
+                (due(old, 1), due(old, 1), due_closing(old)),
                 "{old:?}"
             );
+            let (marked, mark) = (old.marked, old.mark);
+            let unmarked = Record {
+                marked,
+                mark,
+                ..tried
+            };
+            assert!(unmarked == old && (tried == old || trial == 0 && tried.marked));
             assert!(written == old || (sector == 0 && written.sectors == old.sectors + 1));
             assert!(closed == old || (closing == 0 && closed.closed));
         },

@@ -37,14 +37,23 @@ fn length_1_of_the_writer() {
     let mut record = Record::new();
     let mut out = vec![OLD; STREAM + 1];
     let (main, long) = (vec![0; MAIN], vec![0; MAIN + 1]);
-    assert_eq!(
-        slices::write_sector(&mut record, &main[..=SECTOR], &mut out[..SECTOR_STREAM]),
-        Err(Refusal::Length)
-    );
-    assert_eq!(
-        slices::write_sector(&mut record, &main[..SECTOR], &mut out[..=SECTOR_STREAM]),
-        Err(Refusal::Length)
-    );
+    for (from, to) in [(SECTOR + 1, SECTOR_STREAM), (SECTOR, SECTOR_STREAM + 1)] {
+        assert_eq!(
+            slices::trial(&mut record, &main[..from], &out[..to]),
+            Err(Refusal::Length)
+        );
+        assert_eq!(
+            slices::take(&mut record, &main[..from], &mut out[..to]),
+            Err(Refusal::Length)
+        );
+    }
+    for (from, to) in [(MAIN, BLOCK_STREAM), (BLOCK, STREAM)] {
+        let block = vec![0; from];
+        assert_eq!(
+            slices::write_sectors(&mut record, &block, &mut out[..to]),
+            Err(Refusal::Length)
+        );
+    }
     assert_eq!(
         slices::write_block(&mut record, None, &long, 0, 0, &mut out[..BLOCK_STREAM]),
         Err(Refusal::Length)
@@ -358,21 +367,32 @@ fn answer(
     answer
 }
 
-/// The answers to a sector, to a whole block and to closing from a record, by slices; the writer's are the same.
+/// The answers to a trial, to a whole block and to closing from a record, by slices; the writer's are the same. A take after the trial is answered as the trial is,
+/// and the sixteen sectors of a block as the whole block.
 fn answers(record: Record) -> [Result<(), Refusal>; 3] {
     let (bytes, main) = ([1; SECTOR], buffer(1));
     let all = [
         answer(record, SECTOR_STREAM, |record, out| {
-            slices::write_sector(record, &bytes, out)
+            slices::trial(record, &bytes, out).map(drop)
         }),
         answer(record, BLOCK_STREAM, |record, out| {
             slices::write_block(record, None, &main[..], 16, 0, out)
         }),
         answer(record, CLOSING, slices::close),
     ];
+    let mut tried = record;
+    slices::trial(&mut tried, &bytes, &[OLD; SECTOR_STREAM]).ok();
+    let taken = answer(tried, SECTOR_STREAM, |record, out| {
+        slices::take(record, &bytes, out)
+    });
+    let laid = answer(record, BLOCK_STREAM, |record, out| {
+        slices::write_sectors(record, &buffer::<BLOCK>(1)[..], out)
+    });
+    assert_eq!([taken, laid], [all[0], all[1]]);
     let writer = Writer::from_record(record, None);
+    let trial = writer.trial(&bytes);
     let by_writer = [
-        writer.write_sector(&bytes, &mut [OLD; SECTOR_STREAM]),
+        trial.and_then(|trial| trial.take(&bytes, &mut [OLD; SECTOR_STREAM])),
         writer.write_block(&main, 16, 0, &mut buffer(OLD)),
         writer.close(&mut [OLD; CLOSING]),
     ];
@@ -399,6 +419,115 @@ const DONE: Result<(), Refusal> = Ok(());
 const ENDED: Result<(), Refusal> = Err(Refusal::RunEnded);
 const UNFINISHED: Result<(), Refusal> = Err(Refusal::RunUnfinished);
 const BAD: [Result<(), Refusal>; 3] = [Err(Refusal::Record); 3];
+
+/// The sector of zeros from a record, and the DSV after it.
+const ZEROS: [u8; SECTOR] = [0; SECTOR];
+
+fn dsv_of(record: Record) -> i64 {
+    let trial = Writer::from_record(record, None).trial(&ZEROS);
+    trial.unwrap().dsv()
+}
+
+/// What a take of zeros is refused with from a record: record and buffer are left.
+fn take_refused(record: Record) -> u8 {
+    let taken = answer(record, SECTOR_STREAM, |record, out| {
+        slices::take(record, &ZEROS, out)
+    });
+    taken.unwrap_err().number()
+}
+
+/// A mark is a DSV: that a trial gave it is not told, and where `marked` is false its number is not looked at.
+#[test]
+fn not_tried_12() {
+    for record in [open(0), open(3), open(16), open(RUN_SECTORS - 1)] {
+        assert_eq!(take_refused(record), 12);
+        let mark = dsv_of(record);
+        assert_eq!(take_refused(Record { mark, ..record }), 12);
+    }
+}
+
+#[test]
+fn other_dsv_13() {
+    for record in [open(0), open(3), open(16), open(RUN_SECTORS - 1)] {
+        let (dsv, marked) = (dsv_of(record), true);
+        for mark in [dsv - 1, dsv + 1, -dsv - 1, i64::MIN, i64::MAX] {
+            let record = Record {
+                marked,
+                mark,
+                ..record
+            };
+            assert_eq!(take_refused(record), 13, "{mark} for {dsv}");
+        }
+        let record = Record {
+            marked,
+            mark: dsv,
+            ..record
+        };
+        let (mut after, mut out) = (record, [OLD; SECTOR_STREAM]);
+        assert_eq!(slices::take(&mut after, &ZEROS, &mut out), DONE);
+        assert_eq!((after.dsv, after.marked, after.mark), (dsv, false, 0));
+    }
+}
+
+/// 1, 9, 7, 12 and 13 in a take, and a mark that stays with each.
+#[test]
+fn order_with_12_and_13() {
+    let marked = |record: Record| Record {
+        marked: true,
+        mark: i64::MAX,
+        ..record
+    };
+    for bad in [
+        marked(Record {
+            level: 2,
+            ..open(3)
+        }),
+        Record {
+            level: 2,
+            ..closed(16)
+        },
+    ] {
+        assert_eq!(take_refused(bad), 9);
+        let short = answer(bad, SECTOR_STREAM - 1, |record, out| {
+            slices::take(record, &ZEROS, out)
+        });
+        assert_eq!(short, Err(Refusal::Length));
+    }
+    for ended in [open(RUN_SECTORS), closed(16)] {
+        assert_eq!([take_refused(ended), take_refused(marked(ended))], [7; 2]);
+    }
+    assert_eq!(
+        [take_refused(open(3)), take_refused(marked(open(3)))],
+        [12, 13]
+    );
+}
+
+/// What a trial is refused with leaves the mark that was there; a second trial replaces it; a block, its sectors and closing drop it.
+#[test]
+fn the_mark_of_a_trial() {
+    let (main, mut out) = (buffer::<MAIN>(1), buffer::<BLOCK_STREAM>(OLD));
+    let mut record = open(16);
+    let first = slices::trial(&mut record, &ZEROS, &out[..SECTOR_STREAM]).unwrap();
+    let marked = record;
+    assert_eq!((marked.marked, marked.mark), (true, first));
+    let short = slices::trial(&mut record, &ZEROS[1..], &out[..SECTOR_STREAM]);
+    assert_eq!((short, record), (Err(Refusal::Length), marked));
+    let writer = Writer::from_record(open(16), None);
+    let is_other = |bytes: &[u8; SECTOR]| writer.trial(bytes).unwrap().dsv() != first;
+    let mut sectors = (1..=255).map(|byte| [byte; SECTOR]);
+    let other = sectors.find(is_other).unwrap();
+    let mark = slices::trial(&mut record, &other, &out[..SECTOR_STREAM]).unwrap();
+    assert_eq!(record, Record { mark, ..marked });
+    assert!(out.iter().all(|&byte| byte == OLD));
+
+    let (mut block, mut sectors, mut end) = (record, record, record);
+    slices::write_block(&mut block, None, &main[..], 16, 0, &mut out[..]).unwrap();
+    slices::write_sectors(&mut sectors, &buffer::<BLOCK>(1)[..], &mut out[..]).unwrap();
+    slices::close(&mut end, &mut out[..CLOSING]).unwrap();
+    for after in [block, sectors, end] {
+        assert_eq!((after.marked, after.mark), (false, 0));
+    }
+}
 
 #[test]
 fn run_ended_7() {

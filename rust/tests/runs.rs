@@ -159,7 +159,7 @@ fn two_thousand_blocks() {
     assert!(touched > 0, "no last word was judged by the code after it");
 }
 
-/// A block at once is the block maker and sixteen sectors, from any record that the run comes to.
+/// A block at once is the block maker and sixteen sectors, by trials and takes or in one call, from any record that the run comes to.
 #[test]
 fn a_block_is_sixteen_sectors() {
     let (mut writer, mut by_sectors) = (Writer::new(), Writer::new());
@@ -171,12 +171,16 @@ fn a_block_is_sixteen_sectors() {
             .write_block(&main, first, INFORMATION, &mut whole)
             .unwrap();
         let block = encode_block(&main, previous, first, INFORMATION).unwrap();
+        let mut at_once = buffer(0);
+        let laid = by_sectors.write_sectors(&block, &mut at_once).unwrap();
         for (sector, out) in block.chunks(SECTOR).zip(parts.chunks_mut(SECTOR_STREAM)) {
-            by_sectors = by_sectors
-                .write_sector(sector.try_into().unwrap(), out.try_into().unwrap())
-                .unwrap();
+            let sector = sector.try_into().unwrap();
+            let trial = by_sectors.trial(sector).unwrap();
+            by_sectors = trial.take(sector, out.try_into().unwrap()).unwrap();
+            assert_eq!(by_sectors.record().dsv, trial.dsv());
         }
-        assert!(whole == parts, "block {k}");
+        assert!(whole == parts && whole == at_once, "block {k}");
+        assert_eq!(laid, by_sectors);
         assert_eq!(writer.record(), by_sectors.record());
         assert_eq!(by_sectors.previous(), None);
         previous = writer.previous();

@@ -84,8 +84,8 @@ fn closings() {
             level: level(2),
             dsv: number(3),
             sectors: 16,
-            closed: false,
             peak: number(3).unsigned_abs(),
+            ..Record::new()
         };
         let mut out = [0; CLOSING];
         let writer = Writer::from_record(open, None).close(&mut out).unwrap();
@@ -118,14 +118,12 @@ fn run_mains() -> Vec<[u8; MAIN]> {
         .collect()
 }
 
-/// The run's records after each sector and after closing: all words of a line but the last, which is of a later request.
+/// The run's records after each sector and after closing. None has a mark: the last word of each line is `none`.
 fn run_records() -> Vec<Record> {
     let record = |line: &str| {
-        let words: Vec<i64> = line
-            .split(' ')
-            .skip(1)
-            .map_while(|word| word.parse().ok())
-            .collect();
+        let fields = line.strip_prefix("record ").unwrap();
+        let fields = fields.strip_suffix(" none").unwrap().split(' ');
+        let words: Vec<i64> = fields.map(|word| word.parse().unwrap()).collect();
         Record {
             state: words[0].try_into().unwrap(),
             level: words[1].try_into().unwrap(),
@@ -133,6 +131,7 @@ fn run_records() -> Vec<Record> {
             sectors: words[3].try_into().unwrap(),
             closed: words[4] == 1,
             peak: words[5].try_into().unwrap(),
+            ..Record::new()
         }
     };
     let list = String::from_utf8(run("run.records")).unwrap();
@@ -173,9 +172,10 @@ fn run_by_sectors() {
         assert!(block[..] == blocks[BLOCK * k..][..BLOCK], "block {k}");
         for (i, sector) in block.chunks(SECTOR).enumerate() {
             let (s, mut out) = (16 * k + i, [0; SECTOR_STREAM]);
-            writer = writer
-                .write_sector(sector.try_into().unwrap(), &mut out)
-                .unwrap();
+            let sector = sector.try_into().unwrap();
+            let trial = writer.trial(sector).unwrap();
+            assert_eq!(trial.dsv(), records[s].dsv);
+            writer = trial.take(sector, &mut out).unwrap();
             assert_eq!(writer.record(), records[s]);
             assert_eq!(out, due[SECTOR_STREAM * s..][..SECTOR_STREAM]);
         }

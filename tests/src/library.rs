@@ -74,10 +74,14 @@ fn kept(r: &Record) -> chamanzil::Record {
         sectors: r.sectors,
         closed: r.closed,
         peak: r.peak,
+        marked: r.mark.is_some(),
+        mark: r.mark.unwrap_or(0),
     }
 }
 
+/// Where there is no mark its number is 0.
 fn record_of(r: chamanzil::Record) -> Record {
+    assert!(r.marked || r.mark == 0, "{r:?}");
     Record {
         state: r.state,
         level: r.level,
@@ -85,6 +89,7 @@ fn record_of(r: chamanzil::Record) -> Record {
         sectors: r.sectors,
         closed: r.closed,
         peak: r.peak,
+        mark: r.marked.then_some(r.mark),
     }
 }
 
@@ -95,9 +100,23 @@ pub fn new_record(old: &Record) -> Record {
     record_of(r)
 }
 
-pub fn write_sector(record: &mut Record, bytes: &[u8], out: &mut [u8]) -> u32 {
+pub fn trial(record: &mut Record, bytes: &[u8], out: &[u8]) -> u32 {
     let mut r = kept(record);
-    let answer = unsafe { chamanzil_write_sector(&mut r, bytes.as_ptr(), bytes.len(), out.as_mut_ptr(), out.len()) };
+    let answer = unsafe { chamanzil_trial(&mut r, bytes.as_ptr(), bytes.len(), out.as_ptr(), out.len()) };
+    *record = record_of(r);
+    answer
+}
+
+pub fn take(record: &mut Record, bytes: &[u8], out: &mut [u8]) -> u32 {
+    let mut r = kept(record);
+    let answer = unsafe { chamanzil_take(&mut r, bytes.as_ptr(), bytes.len(), out.as_mut_ptr(), out.len()) };
+    *record = record_of(r);
+    answer
+}
+
+pub fn write_sectors(record: &mut Record, block: &[u8], out: &mut [u8]) -> u32 {
+    let mut r = kept(record);
+    let answer = unsafe { chamanzil_write_sectors(&mut r, block.as_ptr(), block.len(), out.as_mut_ptr(), out.len()) };
     *record = record_of(r);
     answer
 }

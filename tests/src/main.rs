@@ -30,7 +30,7 @@ use tables::Tables;
 
 fn round(report: &mut Report, seed: u64) {
     vectors_test::all(report);
-    session_test::all(report);
+    session_test::vectors(report);
     let mut random = Random::new(seed);
     codes_test::field(report, &mut random);
     codes_test::parities(report, &mut random, 2_000);
@@ -47,6 +47,7 @@ fn round(report: &mut Report, seed: u64) {
     writer_test::closings(report, &tables);
     writer_test::ends(report, &mut random, &tables);
     writer_test::refusals(report, &mut random, &tables, 20_000);
+    session_test::random_sessions(report, &mut random, &tables, 10_000);
     readers_test::all(report, &mut random, &tables, &reader);
     runs_test::all(report, &mut random, &tables, &reader);
 }

@@ -1,5 +1,5 @@
 //! Blocks that follow on: runs of the library against the second implementation, written, read block by block, and damaged.
-use crate::block::{BLOCK, MAIN};
+use crate::block::{refusal, BLOCK, MAIN};
 use crate::blocks_test::previous_numbers;
 use crate::damage::damage;
 use crate::library;
@@ -43,7 +43,7 @@ impl Run {
         Run { inputs, blocks, stream, records }
     }
 
-    /// Block k by the library's block maker and sixteen calls of its writer, each compared.
+    /// Block k by the library's block maker and sixteen trials and takes of its writer, each compared.
     fn by_sectors(&self, report: &mut Report, record: &mut Record, k: usize) {
         let input = &self.inputs[k];
         let mut made = vec![0xA5; BLOCK];
@@ -51,23 +51,24 @@ impl Run {
         report.check(answer == 0 && made == self.blocks[BLOCK * k..][..BLOCK], || format!("block {k} made: {answer}"));
         for (i, bytes) in made.chunks(SECTOR).enumerate() {
             let mut out = vec![0xA5; LAID];
-            let (s, answer) = (16 * k + i, library::write_sector(record, bytes, &mut out));
+            let (s, answers) = (16 * k + i, [library::trial(record, bytes, &out), library::take(record, bytes, &mut out)]);
             let is_due = *record == self.records[s] && out == self.stream[LAID * s..][..LAID];
-            report.check(answer == 0 && is_due, || format!("sector {s}: {answer}, {record:?} for {:?}", self.records[s]));
+            report.check(answers == [0; 2] && is_due, || format!("sector {s}: {answers:?}, {record:?} for {:?}", self.records[s]));
         }
     }
 
-    /// Block k by the library's call for a whole block.
+    /// Block k by the library's call for a whole block, which drops the mark of a trial.
     fn by_block(&self, report: &mut Report, record: &mut Record, k: usize) {
         let input = &self.inputs[k];
         let mut out = vec![0xA5; BLOCK_LAID];
+        record.mark = Some(record.dsv);
         let answer = library::write_block(record, previous_of(&self.inputs, k), &input.main, input.first, input.info, &mut out);
         let due = self.records[16 * k + 15];
         let is_due = *record == due && out == self.stream[BLOCK_LAID * k..][..BLOCK_LAID];
         report.check(answer == 0 && is_due, || format!("block {k}: {answer}, {record:?} for {due:?}"));
     }
 
-    /// The run by the library, each block at once where `is_whole` says so, and closed.
+    /// The run by the library, each block at once where `is_whole` says so, and closed, which drops a mark too.
     fn by_library(&self, report: &mut Report, mut is_whole: impl FnMut() -> bool) {
         let mut record = Record::start();
         for k in 0..self.inputs.len() {
@@ -78,6 +79,7 @@ impl Run {
             }
         }
         let mut out = [0xA5; 4];
+        record.mark = Some(record.dsv);
         let answer = library::close(&mut record, &mut out);
         let is_due = Some(&record) == self.records.last() && self.stream.ends_with(&out);
         report.check(answer == 0 && is_due, || format!("closing: {answer}, {record:?}"));
@@ -129,6 +131,12 @@ fn compare_block(report: &mut Report, t: &Tables, record: Record, previous: Opti
     report.check(answer == due && ours == theirs && out == bytes, || {
         format!("{record:?}, {} after {previous:?}, information {}: {answer} for {due}", input.first, input.info)
     });
+    // of a block that the maker makes, its sectors alone are answered likewise
+    if refusal(input.main.len(), BLOCK, previous, input.first, input.info) == 0 {
+        let (mut ours, mut out) = (record, vec![0xA5; to]);
+        let answer = library::write_sectors(&mut ours, &input.block(), &mut out);
+        report.check(answer == due && ours == theirs && out == bytes, || format!("sectors of a block, {record:?}: {answer} for {due}"));
+    }
     due
 }
 

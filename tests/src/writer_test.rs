@@ -8,13 +8,15 @@ use crate::tables::{Tables, SYNC_END};
 use crate::writing::{close, write_sector, Closing, FrameTrace, Record, LAID, RUN_SECTORS, SECTOR};
 use std::collections::BTreeMap;
 
-/// One sector from a record, by both; what the second implementation did.
+/// One sector from a record, by both, tried and taken; what the second implementation did.
 pub fn compare_sector(report: &mut Report, t: &Tables, record: Record, bytes: &[u8]) -> (Record, Vec<FrameTrace>) {
-    let mut out = vec![0xA5; LAID];
-    let mut ours = record;
-    let answer = library::write_sector(&mut ours, bytes, &mut out);
     let mut theirs = record;
     let (stream, traces) = write_sector(t, &mut theirs, bytes);
+    let (mut ours, mut out) = (record, vec![0xA5; LAID]);
+    let answer = library::trial(&mut ours, bytes, &out);
+    let marked = Record { mark: Some(theirs.dsv), ..record };
+    report.check(answer == 0 && ours == marked && out.iter().all(|&b| b == 0xA5), || format!("trial: {answer}, {ours:?} for {marked:?}"));
+    let answer = library::take(&mut ours, bytes, &mut out);
     report.check(answer == 0 && ours == theirs && out == stream, || {
         format!("{record:?}: {answer}, {ours:?} for {theirs:?}")
     });
@@ -108,7 +110,7 @@ pub fn random_record(random: &mut Random) -> Record {
 }
 
 /// Bytes that lean to one side of the DSV keep it far out; few different bytes, or all of them.
-fn random_sector(random: &mut Random) -> Vec<u8> {
+pub fn random_sector(random: &mut Random) -> Vec<u8> {
     match random.below(3) {
         0 => random.bytes(SECTOR),
         1 => {
@@ -239,6 +241,7 @@ pub fn odd_record(random: &mut Random) -> Record {
         sectors,
         closed: random.coin(),
         peak: peaks(dsv, sectors)[[0, 1, 2, 3, 3, 3, 4, 6, 7][random.below(9)]],
+        mark: [None, Some(0), Some(i64::MIN), Some(random.next() as i64)][random.below(4)],
     }
 }
 
@@ -249,7 +252,7 @@ pub fn records_at_ends() -> Vec<Record> {
         for dsv in limits(sectors).into_iter().flat_map(|dsv| [dsv, -dsv]) {
             let peak = dsv.unsigned_abs().min(38_688 * sectors as u64);
             for (state, level) in [(1, 0), (2, 1), (3, 1), (4, 0), (0, 0), (5, 1), (1, 2)] {
-                records.extend([false, true].map(|closed| Record { state, level, dsv, sectors, closed, peak }));
+                records.extend([false, true].map(|closed| Record { state, level, closed, peak, ..Record::open(1, 0, dsv, sectors) }));
             }
         }
     }
@@ -291,12 +294,12 @@ fn end(report: &mut Report, t: &Tables, record: Record, bytes: &[u8]) {
     }
 }
 
-/// A refused sector leaves record and buffer.
+/// A sector that the record or a length refuses, tried and taken: record and buffer are left.
 pub fn sector_refused(report: &mut Report, record: Record, bytes: &[u8], to: usize, due: u32) {
     let (mut ours, mut out) = (record, vec![0xA5; to]);
-    let answer = library::write_sector(&mut ours, bytes, &mut out);
+    let answers = [library::trial(&mut ours, bytes, &out), library::take(&mut ours, bytes, &mut out)];
     let is_left = ours == record && out.iter().all(|&b| b == 0xA5);
-    report.check(answer == due && is_left, || format!("{record:?} {} {to}: {answer} for {due}", bytes.len()));
+    report.check(answers == [due; 2] && is_left, || format!("{record:?} {} {to}: {answers:?} for {due}", bytes.len()));
 }
 
 /// A refused closing likewise.

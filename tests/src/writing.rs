@@ -17,6 +17,8 @@ pub struct Record {
     pub closed: bool,
     /// The greatest absolute DSV at the end of any Sync Frame so far (document 02, request 4).
     pub peak: u64,
+    /// The DSV that the last trial gave, if there was one (document 02, request 5).
+    pub mark: Option<i64>,
 }
 
 impl Record {
@@ -24,9 +26,9 @@ impl Record {
         Record::open(1, 0, 0, 0)
     }
 
-    /// A record before closing, with the lowest peak that goes with its DSV.
+    /// A record before closing, with the lowest peak that goes with its DSV, and no mark.
     pub fn open(state: u8, level: u8, dsv: i64, sectors: u32) -> Record {
-        Record { state, level, dsv, sectors, closed: false, peak: dsv.unsigned_abs() }
+        Record { state, level, dsv, sectors, closed: false, peak: dsv.unsigned_abs(), mark: None }
     }
 
     /// Whether a run may be closed here: after the last sector of a block.
@@ -59,11 +61,50 @@ impl Record {
         }
     }
 
+    /// What a trial and a take are refused with but for the mark.
     pub fn sector_refusal(&self, from: usize, to: usize) -> u32 {
         if from != SECTOR || to != LAID {
             1
         } else {
             self.run_refusal(1)
+        }
+    }
+
+    /// Refusals 12 and 13 of a take, by the DSV after its sector (document 02, request 5).
+    fn mark_refusal(&self, dsv: i64) -> u32 {
+        match self.mark {
+            None => 12,
+            Some(mark) if mark != dsv => 13,
+            Some(_) => 0,
+        }
+    }
+
+    /// A trial of bytes in a buffer of some length: the DSV after the sector, which becomes the mark, or the number. `lay` is the sector from a record, and the
+    /// record after it.
+    pub fn trial(&mut self, from: usize, to: usize, lay: impl FnOnce(&Record) -> (Vec<u8>, Record)) -> Result<i64, u32> {
+        match self.sector_refusal(from, to) {
+            0 => {
+                let dsv = lay(self).1.dsv;
+                self.mark = Some(dsv);
+                Ok(dsv)
+            }
+            refusal => Err(refusal),
+        }
+    }
+
+    /// A take likewise: the sector, or the number.
+    pub fn take(&mut self, from: usize, to: usize, lay: impl FnOnce(&Record) -> (Vec<u8>, Record)) -> Result<Vec<u8>, u32> {
+        let refusal = self.sector_refusal(from, to);
+        if refusal != 0 {
+            return Err(refusal);
+        }
+        let (stream, after) = lay(self);
+        match self.mark_refusal(after.dsv) {
+            0 => {
+                *self = after;
+                Ok(stream)
+            }
+            refusal => Err(refusal),
         }
     }
 
@@ -229,6 +270,7 @@ fn peak_after(before: &Record, stream: &[u8]) -> u64 {
     peak
 }
 
+/// A sector, which drops a mark.
 pub fn write_sector(t: &Tables, record: &mut Record, bytes: &[u8]) -> (Vec<u8>, Vec<FrameTrace>) {
     let before = *record;
     let mut halves = Vec::new();
@@ -237,6 +279,7 @@ pub fn write_sector(t: &Tables, record: &mut Record, bytes: &[u8]) -> (Vec<u8>, 
     let stream = packed(&halves);
     record.sectors += 1;
     record.peak = peak_after(&before, &stream);
+    record.mark = None;
     (stream, traces)
 }
 
@@ -247,7 +290,8 @@ pub struct Closing {
     pub dsvs: [i64; 2],
 }
 
-/// The SY0 of the prescribed class with the lower absolute DSV, the Primary where both are equal (document 02, request 7). It does not count towards the peak.
+/// The SY0 of the prescribed class with the lower absolute DSV, the Primary where both are equal (document 02, request 7). It does not count towards the peak, and
+/// drops a mark.
 pub fn close(t: &Tables, record: &mut Record) -> Closing {
     let [primary, secondary] = t.codes(record.state, 0).map(|first| {
         let mut stream = Stream::after(record);
@@ -258,6 +302,7 @@ pub fn close(t: &Tables, record: &mut Record) -> Closing {
     let written = if secondary.dsv.abs() < primary.dsv.abs() { secondary } else { primary };
     (record.state, record.level, record.dsv) = (written.state, written.level, written.dsv);
     record.closed = true;
+    record.mark = None;
     Closing { code: packed(&written.halves), dsvs }
 }
 

@@ -1,9 +1,7 @@
 //! Images and streams: what the library's writer makes of an image (`run_of`, `written`) and what is said of it (`said_of`), and runs of blocks that the block
 //! maker would not make (`edited`, `run_of_blocks`).
 use chamanzil::{column_parity, encode_block, ied, row_parity, Record, Writer};
-use chamanzil::{
-    BLOCK, BLOCK_STREAM, CLOSING, COLUMN_DATA, MAIN, ROW, ROW_DATA, SECTOR, SECTOR_STREAM, STREAM,
-};
+use chamanzil::{BLOCK, BLOCK_STREAM, CLOSING, COLUMN_DATA, MAIN, ROW, ROW_DATA, STREAM};
 
 /// Bytes of a sector of an image.
 pub const IMAGE_SECTOR: usize = 2_048;
@@ -156,10 +154,10 @@ pub fn set_id(block: &mut [u8; BLOCK], k: usize, id: [u8; 4]) {
 pub fn run_of_blocks(blocks: &[Block]) -> Vec<u8> {
     let mut stream = vec![0; blocks.len() * BLOCK_STREAM + CLOSING];
     let mut writer = Writer::new();
-    let sectors = blocks.iter().flat_map(|block| block.chunks_exact(SECTOR));
-    for (sector, out) in sectors.zip(stream.chunks_exact_mut(SECTOR_STREAM)) {
-        let (sector, out) = (sector.try_into().unwrap(), out.try_into().unwrap());
-        writer = writer.write_sector(sector, out).unwrap();
+    for (block, out) in blocks.iter().zip(stream.chunks_exact_mut(BLOCK_STREAM)) {
+        writer = writer
+            .write_sectors(block, out.try_into().unwrap())
+            .unwrap();
     }
     close(writer, &mut stream);
     stream

@@ -2,8 +2,8 @@
 --     copied       the local that an assignment copies, read off the code: a walk that goes by it follows the code whichever record it stores,
 --                  and what the contract says of the stored record decides
 --     Held         a record that the code has in a local, with its machine value
---     says3        a goal P ∗ (⌜φ⌝ ∗ (⌜χ⌝ ∗ ⌜ψ⌝)), as three `ensures` make it: the three are shown, and P is left
---     heard3       the same three at the head of the context: they are learned
+--     says2, says3       a goal P ∗ (⌜φ⌝ ∗ ⌜ψ⌝), as two `ensures` make it, or with three: they are shown, and P is left
+--     heard2, heard3     the same at the head of the context: they are learned
 -- Assumes nothing.
 use mathlib.Core.Path.{_≡_}
 use mathlib.Core.List.{List, _∷_, []}
@@ -33,6 +33,14 @@ beside : {M : Type 1} (𝓤 : URA M) (φ : Type 0) (X : SProp 𝓤) → φ → e
 beside 𝓤 φ X x h = via 𝓤 X h (via 𝓤 (sep 𝓤 (emp 𝓤) X) (emp∗ 𝓤 X) (monoL 𝓤 X (factI 𝓤 φ (emp 𝓤) x)))
 
 module _ {M : Type 1} {𝓤 : URA M} {H : Heap 𝓤} {A : Atoms 𝓤} {K : Type 0} {W : Given 𝓤 H A} {Γ : List (Item 𝓤)} where
+  pub says2 : K → {φ ψ : Type 0} {P : SProp 𝓤} → φ → ψ → Step K W Γ (prop P) Γ (prop (sep 𝓤 P (sep 𝓤 (fact 𝓤 φ) (fact 𝓤 ψ))))
+  says2 t {φ} {ψ} {P} x y =
+      let F : SProp 𝓤 = sep 𝓤 (fact 𝓤 φ) (fact 𝓤 ψ) in
+      step (λ s. record {
+        prf = via 𝓤 P (s .prf)
+            (via 𝓤 (sep 𝓤 (emp 𝓤) P) (emp∗ 𝓤 P) (via 𝓤 (sep 𝓤 F P) (monoL 𝓤 P (beside 𝓤 φ _ x (factI 𝓤 ψ (emp 𝓤) y))) (comm∗ 𝓤 F P)));
+      })
+
   pub says3 : K → {φ χ ψ : Type 0} {P : SProp 𝓤} → φ → χ → ψ → Step K W Γ (prop P) Γ (prop (sep 𝓤 P (sep 𝓤 (fact 𝓤 φ) (sep 𝓤 (fact 𝓤 χ) (fact 𝓤 ψ)))))
   says3 t {φ} {χ} {ψ} {P} x y z =
       let F : SProp 𝓤 = sep 𝓤 (fact 𝓤 φ) (sep 𝓤 (fact 𝓤 χ) (fact 𝓤 ψ)) in
@@ -40,6 +48,9 @@ module _ {M : Type 1} {𝓤 : URA M} {H : Heap 𝓤} {A : Atoms 𝓤} {K : Type 
         prf = via 𝓤 P (s .prf)
             (via 𝓤 (sep 𝓤 (emp 𝓤) P) (emp∗ 𝓤 P) (via 𝓤 (sep 𝓤 F P) (monoL 𝓤 P (beside 𝓤 φ _ x (beside 𝓤 χ _ y (factI 𝓤 ψ (emp 𝓤) z)))) (comm∗ 𝓤 F P)));
       })
+
+  pub heard2 : {G : Goal 𝓤 H} → K → (φ ψ : Type 0) → (φ → ψ → Seq K W Γ G) → Seq K W ((raw (fact 𝓤 φ) ⊛ raw (fact 𝓤 ψ)) ∷ Γ) G
+  heard2 t φ ψ k = split t $ heard t φ (λ x. heard t ψ (λ y. k x y))
 
   pub heard3 : {G : Goal 𝓤 H} → K → (φ χ ψ : Type 0) → (φ → χ → ψ → Seq K W Γ G) → Seq K W ((raw (fact 𝓤 φ) ⊛ (raw (fact 𝓤 χ) ⊛ raw (fact 𝓤 ψ))) ∷ Γ) G
   heard3 t φ χ ψ k = split t $ heard t φ (λ x. split t $ heard t χ (λ y. heard t ψ (λ z. k x y z)))

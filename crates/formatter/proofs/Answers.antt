@@ -3,7 +3,7 @@
 use mathlib.Core.Bool.{Bool, true, false, cond}
 use mathlib.Core.List.{List, [], _++_, append-nil}
 use mathlib.Core.Path.{_≡_, refl, sym, ap, ap₂, _∙_}
-use Prim.Native.Nat.{ℕ, zero, suc, _*_, _<_}
+use Prim.Native.Nat.{ℕ, zero, suc}
 use native.Mathlib.Omega.{arith}
 use borrow.Author.Tests.{eq-eqb, ne-eqb, eqb-true}
 use lib.Dec.{eqb}
@@ -11,8 +11,7 @@ use lib.ListN.{length, take, drop, length-append, length-drop, take-append-drop}
 use lib.Seq.{length-take-le, take-all, take-at, drop-at, drop-length}
 use Rattle.bytes.specs.Halves.{packed}
 use Rattle.bytes.proofs.Halves.{packed-append}
-use Rattle.layout.specs.Lengths.{sectorCount, blockSize, sectorStream, sectorsStream, closingSize, streamSize}
-use Rattle.lists.specs.Bytes.{Bytes}
+use Rattle.layout.specs.Lengths.{sectorCount, blockSize, sectorsStream, closingSize, streamSize}
 use Rattle.eccblock.specs.Block.{block}
 use Rattle.eccblock.specs.Encode.{encodeRefusal, encodedBuffer, Accepted}
 use Rattle.eccblock.proofs.Laws.{block-length, block-bytes}
@@ -21,17 +20,17 @@ use Rattle.eccblock.specs.declared.Previous.the-variants.{None}
 use Rattle.levels.specs.declared.Running.{Running}
 use Rattle.streams.specs.Frames.{sectorsOf, closingOf, runOf}
 use Rattle.streams.specs.Streams.{Stream}
-use Rattle.writer.specs.Answers.{answerNumber, sound, ended, blockRefusal, closingOut}
+use Rattle.writer.specs.Answers.{answerNumber, sound, ended, blockRefusal, sectorsRefusal, sectorsNext, sectorsOut, closingOut}
+use Rattle.writer.specs.Inner.{sectorRoom}
 use Rattle.writer.specs.Session.{runCalls}
 use Rattle.writer.specs.Records.{start, runningOf, peakAfter, afterBlock}
 use Rattle.writer.specs.declared.Answer.{Answer}
-use Rattle.writer.specs.declared.Answer.the-variants.{Done, LengthRefused, RunEnded, RunUnfinished, BadRecord}
+use Rattle.writer.specs.declared.Answer.the-variants.{Done, LengthRefused, RunEnded, RunUnfinished, BadRecord, NotTried, OtherDsv}
 use Rattle.writer.specs.declared.Record.{Record}
 use Rattle.writer.proofs.Calls.{running-record}
-use Rattle.writer.proofs.Runs.{BlockWritten, block-written, begins-start, begins-open, begins-more, closing-going}
-use Rattle.writer.proofs.Sound.{Open}
+use Rattle.writer.proofs.Runs.{BlockWritten, parts-written, begins-start, begins-open, begins-more, closing-going}
 use Rattle.formatter.specs.Formatter.{writeBlockRefusal, writeBlockNext, writeBlockOut, blockStream, formatRefusal, formattedBuffer}
-use Rattle.formatter.specs.Inner.{sectorRoom, recordNumber, madeRefusal, firstLaid}
+use Rattle.formatter.specs.Inner.{recordNumber, madeRefusal, firstLaid}
 
 -- ---- the number
 
@@ -50,6 +49,12 @@ record-number w a e = by a (sound w) (ended w sectorCount) e
     by RunUnfinished true false e = absurd (omega arith)
     by RunUnfinished false d e = absurd (omega arith)
     by BadRecord s d e = e
+    by NotTried true true e = absurd (omega arith)
+    by NotTried true false e = absurd (omega arith)
+    by NotTried false d e = absurd (omega arith)
+    by OtherDsv true true e = absurd (omega arith)
+    by OtherDsv true false e = absurd (omega arith)
+    by OtherDsv false d e = absurd (omega arith)
 
 module _ (w : Record) (previous : Previous) (n first info : ℕ) where
   abbrev refusal : ℕ
@@ -105,14 +110,15 @@ pub block-made :
 unfolding encodedBuffer
 block-made previous main first info was e = rw (eq-eqb (encodeRefusal previous (length main) (length was) first info) 0 e)
 
--- the parts that are lent have the writer's lengths,
-pub sector-room : (old : List ℕ) → length old ≡ sectorsStream → (k : ℕ) → k < sectorCount → length (sectorRoom old k) ≡ sectorStream
-sector-room old h k m = length-take-le sectorStream (drop (sectorStream * k) old) (omega (arith, length-drop (sectorStream * k) old))
+-- the writer's sectors where neither the block maker nor the record refuses
+module _ (w : Record) (bs out : List ℕ) (l : length bs ≡ blockSize) (m : length out ≡ sectorsStream) (z : blockRefusal w ≡ 0) where
+  pub sectors-next : sectorsNext w bs (length out) ≡ afterBlock w bs
+  unfolding sectorsNext sectorsRefusal
+  sectors-next = rw (eq-eqb (length bs) blockSize l, eq-eqb (length out) sectorsStream m, eq-eqb (blockRefusal w) 0 z)
 
--- so that the sixteen sectors are written
-pub sectors-written : (w : Record) (bs old : List ℕ) → Open w sectorCount → length bs ≡ blockSize → Bytes bs → length old ≡ sectorsStream
-    → BlockWritten w bs (sectorRoom old)
-sectors-written w bs old o l b h = block-written w bs (sectorRoom old) o l b (sector-room old h)
+  pub sectors-out : sectorsOut w bs out ≡ packed (sectorsOf (runningOf w) bs sectorCount .halves)
+  unfolding sectorsOut sectorsRefusal
+  sectors-out = rw (eq-eqb (length bs) blockSize l, eq-eqb (length out) sectorsStream m, eq-eqb (blockRefusal w) 0 z)
 
 -- ---- the run of one block
 
@@ -177,7 +183,7 @@ module _ (main : List ℕ) (first info : ℕ) (old : List ℕ) where
 
       wrote : BlockWritten start made (sectorRoom part)
       wrote =
-          sectors-written start made part (begins-open (begins-start 1 (omega arith) (omega arith))) (block-length main first info ok) (block-bytes main first info ok) part-length
+          parts-written start made part (begins-open (begins-start 1 (omega arith) (omega arith))) (block-length main first info ok) (block-bytes main first info ok) part-length
 
       next-is : next ≡ afterBlock start made
       next-is =

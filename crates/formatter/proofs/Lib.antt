@@ -1,3 +1,2 @@
-pub mod Sectors
 pub mod Answers
 pub mod Runs

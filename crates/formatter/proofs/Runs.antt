@@ -23,14 +23,15 @@ use Rattle.eccblock.proofs.Laws.{block-length, block-bytes}
 use Rattle.eccblock.proofs.Runs.{run-length-fits}
 use Rattle.streams.specs.Frames.{choicesOf}
 use Rattle.writer.specs.Records.{start, runningOf, afterBlock, afterRun}
-use Rattle.writer.specs.Session.{Session, runCalls, NoneRefused, Handed}
+use Rattle.writer.specs.Inner.{sectorRoom}
+use Rattle.writer.specs.Session.{Session, writes, runCalls, NoneRefused, Handed}
 use Rattle.writer.specs.declared.Record.{Record}
-use Rattle.writer.proofs.Runs.{handed-calls, Begins, begins-start, begins-open, begins-more, closing-going, run-written}
+use Rattle.writer.proofs.Runs.{handed-calls, Begins, begins-start, begins-open, begins-more, closing-going, run-written, sector-room, parts-written}
 use Rattle.writer.proofs.Sound.{Open, block-opens, open-taken}
 use Rattle.formatter.specs.Formatter.{writeBlockRefusal, writeBlockNext}
-use Rattle.formatter.specs.Inner.{sectorRoom, madeRefusal}
+use Rattle.formatter.specs.Inner.{madeRefusal}
 use Rattle.formatter.specs.Session.{blockCalls, BlocksTaken}
-use Rattle.formatter.proofs.Answers.{neither-refuses, block-next, block-out, sector-room, sectors-written}
+use Rattle.formatter.proofs.Answers.{neither-refuses, block-next, block-out}
 
 -- ---- a run
 
@@ -51,7 +52,7 @@ rooms outs j = sectorRoom (outs j)
 -- the calls for the blocks of a run and for closing from the record w: none is refused, and they are the writer's over the same blocks, in the same buffers
 record AsSectors (w : Record) (previous : Previous) (is : List BlockInput) (outs : ℕ → List ℕ) (end : List ℕ) : Type 0 where
   refusals : BlocksTaken w previous is outs end
-  same : blockCalls w previous is outs end ≡ runCalls w (runBlocks is) (rooms outs) end
+  same : blockCalls w previous is outs end ≡ runCalls writes w (runBlocks is) (rooms outs) end
 
 as-sectors :
     (is : List BlockInput) (w : Record) (previous : Previous) (outs : ℕ → List ℕ) (end : List ℕ) → Begins w (length is) → AcceptedRun previous is
@@ -63,7 +64,7 @@ as-sectors (i ∷ is) w previous outs end b (ok, oks) ho l =
     let size = ho 0 (omega arith) in
     let taken = block-taken w previous i (length (outs 0)) (begins-open b) ok size in
     let written =
-    sectors-written w (madeBlock i) (outs 0) (begins-open b) (block-length (i .main) (i .first) (i .info) ok) (block-bytes (i .main) (i .first) (i .info) ok) size in
+    parts-written w (madeBlock i) (outs 0) (begins-open b) (block-length (i .main) (i .first) (i .info) ok) (block-bytes (i .main) (i .first) (i .info) ok) size in
     let out-is = sym (block-out w previous (i .main) (i .first) (i .info) (outs 0) taken) ∙ sym (written .stream) in
     let next-is = sym (block-next w previous (i .main) (i .first) (i .info) (outs 0) taken) in
     let rest = as-sectors is (afterBlock w (madeBlock i)) (First (i .first)) later end (begins-more b written) oks (λ k h. ho (suc k) (omega arith)) l in
@@ -73,7 +74,7 @@ as-sectors (i ∷ is) w previous outs end b (ok, oks) ho l =
           ap₂ (λ (u : List ℕ) (t : Session). record { bytes = u ++ t .bytes; next = t .next }) out-is
           (ap (λ (v : Record). blockCalls v (First (i .first)) is later end) next-is
           ∙ rest .same
-          ∙ ap (λ (v : Record). runCalls v (runBlocks is) (rooms later) end) (sym (written .next)));
+          ∙ ap (λ (v : Record). runCalls writes v (runBlocks is) (rooms later) end) (sym (written .next (omega arith))));
     }
 
 -- ---- the blocks of an accepted run
@@ -142,8 +143,8 @@ block-handed w previous main first info m h hm hi = by (eqb refusal 0) refl
         let ok : Accepted previous main first info = record { bytes = hm; byte = hi; taken = none .0 } in
         let room : List ℕ = replicate sectorsStream 0 in
         let bytes = block-bytes main first info ok in
-        let s = sectors-written w made room (block-opens w (none .1)) (block-length main first info ok) bytes (length-replicate {A = ℕ} sectorsStream 0) in
-        subst Handed (s .next) (handed-calls w made (sectorRoom room) bytes h sectorCount)
+        let s = parts-written w made room (block-opens w (none .1)) (block-length main first info ok) bytes (length-replicate {A = ℕ} sectorsStream 0) in
+        subst Handed (s .next (omega arith)) (handed-calls w made (sectorRoom room) bytes h sectorCount)
 
     by : (b : Bool) → eqb refusal 0 ≡ b → Handed (cond b (afterBlock w made) w)
     by true e = written (eqb-true refusal 0 e)

@@ -1,34 +1,31 @@
--- The vocabulary of inner contracts: the parts of a stream buffer that are lent to the writer (sectorRoom), the writer's answer on a block's record as the
--- formatter's (recordNumber), what is refused but for the length of the stream buffer (madeRefusal), and a stream with its first block laid (firstLaid). Nobody
--- needs to believe it.
+-- The vocabulary of inner contracts: the writer's answer on a block's record as the formatter's (recordNumber), what is refused but for the length of the stream
+-- buffer (madeRefusal), and a stream with its first block laid (firstLaid). Nobody needs to believe it.
 -- Assumes nothing.
 use mathlib.Core.Bool.{cond}
 use mathlib.Core.List.{List, _++_}
-use Prim.Native.Nat.{ℕ, _*_}
+use Prim.Native.Nat.{ℕ}
 use lib.Dec.{eqb}
 use lib.ListN.{take, drop}
 use Rattle.eccblock.specs.Encode.{encodeRefusal}
 use Rattle.eccblock.specs.declared.Previous.{Previous}
 use Rattle.eccblock.specs.declared.Previous.the-variants.{None}
-use Rattle.layout.specs.Lengths.{blockSize, sectorStream, sectorsStream}
+use Rattle.layout.specs.Lengths.{blockSize, sectorsStream}
 use Rattle.writer.specs.Answers.{blockRefusal}
 use Rattle.writer.specs.declared.Answer.{Answer}
-use Rattle.writer.specs.declared.Answer.the-variants.{Done, LengthRefused, RunEnded, RunUnfinished, BadRecord}
+use Rattle.writer.specs.declared.Answer.the-variants.{Done, LengthRefused, RunEnded, RunUnfinished, BadRecord, NotTried, OtherDsv}
 use Rattle.writer.specs.Records.{start}
 use Rattle.writer.specs.declared.Record.{Record}
 use Rattle.formatter.specs.Formatter.{writeBlockOut}
 
--- for sector k
-abbrev pub sectorRoom : List ℕ → ℕ → List ℕ
-sectorRoom old k = take sectorStream (drop (sectorStream * k) old)
-
--- a block asks for no buffer of the writer and does not close: the writer refuses it with 7 or 9 only
+-- a block asks for no buffer of the writer, does not close and is not tried: the writer refuses it with 7 or 9 only
 abbrev pub recordNumber : Answer → ℕ
 recordNumber Done = 0
 recordNumber LengthRefused = 9
 recordNumber RunEnded = 7
 recordNumber RunUnfinished = 9
 recordNumber BadRecord = 9
+recordNumber NotTried = 9
+recordNumber OtherDsv = 9
 
 abbrev pub madeRefusal : Record → Previous → ℕ → ℕ → ℕ → ℕ
 madeRefusal w previous n first info =

@@ -3,18 +3,14 @@
 ghost use mathlib.Core.Path.{_≡_};
 ghost use lib.ListN.{length};
 ghost use Rattle.eccblock.specs.Encode.{encodeNumber, encodedBuffer};
-ghost use Rattle.writer.specs.Session.{sectorCalls};
 ghost use Rattle.eccblock.specs.declared.Previous.the-variants.{None};
 ghost use Rattle.writer.specs.Records.{start};
-ghost use Rattle.layout.specs.Lengths.{sectorCount, blockSize, sectorsStream, streamSize};
+ghost use Rattle.layout.specs.Lengths.{blockSize, sectorsStream, streamSize};
 ghost use Rattle.formatter.specs.Formatter.{formattedNumber, writeBlockRefusal, writeBlockNext, writeBlockOut, formatRefusal, formattedBuffer};
-ghost use Rattle.formatter.specs.Inner.{sectorRoom, recordNumber, madeRefusal, firstLaid};
+ghost use Rattle.formatter.specs.Inner.{recordNumber, madeRefusal, firstLaid};
 use eccblock::Encoded;
 use eccblock::Previous;
 use layout::BLOCK_SIZE;
-use layout::SECTOR_COUNT;
-use layout::SECTOR_SIZE;
-use layout::SECTOR_STREAM;
 use layout::SECTORS_STREAM;
 use layout::STREAM_SIZE;
 use writer::Answer;
@@ -76,6 +72,8 @@ fn of_record(answer: Answer) -> Formatted
         Answer::RunEnded => Formatted::RunEnded,
         Answer::RunUnfinished => Formatted::BadRecord,
         Answer::BadRecord => Formatted::BadRecord,
+        Answer::NotTried => Formatted::BadRecord,
+        Answer::OtherDsv => Formatted::BadRecord,
     }
 }
 
@@ -108,29 +106,8 @@ fn make(
     of_record(writer::block_refusal(current))
 }
 
-// The sixteen sectors, one after the other into the stream, each with the record that the one before it handed back.
-fn write_sectors(current: Record, block: &[u8], out: &mut [u8]) -> Record
-    requires { ⌜ length (now block) ≡ blockSize ⌝ }
-    requires { ⌜ length (now out) ≡ sectorsStream ⌝ }
-    ensures { λ r. ⌜ r ≡ sectorCalls current (now (block .entry)) (sectorRoom (now (out .entry))) sectorCount .next ⌝ }
-    ensures { λ r. ⌜ now (out .exit)
-        ≡ sectorCalls current (now (block .entry)) (sectorRoom (now (out .entry))) sectorCount .bytes ⌝ }
-{
-    let mut w = current;
-    let mut k: usize = 0;
-    while k < SECTOR_COUNT {
-        let from = SECTOR_SIZE * k;
-        let till = from + SECTOR_SIZE;
-        let at = SECTOR_STREAM * k;
-        let end = at + SECTOR_STREAM;
-        let s = writer::write_sector(w, &block[from..till], &mut out[at..end]);
-        w = s.next;
-        k += 1;
-    }
-    w
-}
-
-// A whole block of a run: 32,768 main data bytes to sixteen sectors of stream, 77,376 bytes. Where a number applies, record and buffer are left as they were.
+// A whole block of a run: 32,768 main data bytes to sixteen sectors of stream, 77,376 bytes; each is laid once, and a mark is dropped. Where a number applies,
+// record and buffer are left as they were.
 pub fn write_block(
     current: Record,
     previous: Previous,
@@ -160,7 +137,8 @@ pub fn write_block(
             answer: made,
         };
     }
-    let next = write_sectors(current, &block, out);
+    let step = writer::write_sectors(current, &block, out);
+    let next = step.next;
     BlockStep { next, answer: made }
 }
 

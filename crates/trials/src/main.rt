@@ -338,6 +338,8 @@ fn answer_number(a: Answer) -> u64 {
         Answer::RunEnded => 7,
         Answer::RunUnfinished => 8,
         Answer::BadRecord => 9,
+        Answer::NotTried => 12,
+        Answer::OtherDsv => 13,
     }
 }
 
@@ -361,6 +363,8 @@ fn record(state: u8, level: u8, dsv: i64, sectors: u32, closed: bool) -> Record 
         sectors,
         closed,
         peak,
+        marked: false,
+        mark: 0,
     }
 }
 
@@ -404,6 +408,12 @@ fn write_stream(block: &[u8], out: &mut [u8]) {
     close(w, out);
 }
 
+// A sector by a trial and a take.
+fn try_and_take(w: Record, bytes: &[u8], out: &mut [u8]) -> Step {
+    let tried = writer::trial(w, bytes, &*out);
+    writer::take(tried.next, bytes, out)
+}
+
 // Sector k of a block.
 fn next_sector(w: Record, k: usize, block: &[u8], out: &mut [u8]) -> Record {
     if SECTOR_COUNT <= k {
@@ -419,7 +429,7 @@ fn next_sector(w: Record, k: usize, block: &[u8], out: &mut [u8]) -> Record {
     let till = from + SECTOR_SIZE;
     let at = SECTOR_STREAM * k;
     let end = at + SECTOR_STREAM;
-    let s = writer::write_sector(w, &block[from..till], &mut out[at..end]);
+    let s = try_and_take(w, &block[from..till], &mut out[at..end]);
     let next = s.next;
     print_sector(k, next);
     next
@@ -559,7 +569,7 @@ fn sector_case(sector_path: &[u8], stream_path: &[u8], w: Record) {
     let mut out = [0u8; SECTOR_STREAM];
     load(sector_path, &mut bytes);
     load(stream_path, &mut due);
-    let s = writer::write_sector(w, &bytes, &mut out);
+    let s = try_and_take(w, &bytes, &mut out);
     let next = s.next;
     let answer = s.answer;
     print(sector_path);
@@ -641,6 +651,8 @@ fn peaked(dsv: i64, sectors: u32, closed: bool, peak: u64) -> Record {
         sectors,
         closed,
         peak,
+        marked: false,
+        mark: 0,
     }
 }
 
@@ -653,11 +665,11 @@ fn record_case(w: Record) {
     if w.closed {
         print(b" closed");
     }
-    let written = writer::write_sector(w, &bytes, &mut out);
+    let written = try_and_take(w, &bytes, &mut out);
     say_answer(b": sector ", written);
     let closed = writer::close(w, &mut four);
     say_answer(b", closing ", closed);
-    let short = writer::write_sector(w, &bytes, &mut four);
+    let short = try_and_take(w, &bytes, &mut four);
     say_answer(b", another length ", short);
     print(b"\n");
 }

@@ -1,8 +1,8 @@
 -- Laws of single calls, each over any record that the writer hands back:
---   never-nine                                 it is never refused with 9
---   sector-peak-never-falls, closing-peak      its peak never falls, and closing leaves it
---   sector-free, closing-free, sector-next     where a call is not refused, and what it leaves then
---   running-record, record-running             the running record of a record, and back
+--   never-nine                                           it is never refused with 9
+--   trial-peak, take-peak-never-falls, closing-peak      its peak never falls; a trial and closing leave it
+--   sector-free, closing-free, sector-next               where a call is not refused, and what it leaves then
+--   running-record, record-running                       the running record of a record, and back
 -- Assumes nothing.
 use mathlib.Core.Path.{_≡_, refl, sym, ap, ap₂, subst, _∙_}
 use mathlib.Core.Bool.{Bool, true, false, not, cond, _&&_}
@@ -12,7 +12,7 @@ use native.Mathlib.Nat.{le-max-left}
 use native.Mathlib.Omega.{arith}
 use borrow.Author.Tests.{eq-eqb, eqb-true}
 use lib.Dec.{T, eqb}
-use lib.IntN.{ℤ}
+use lib.IntN.{ℤ, pos}
 use lib.ListN.{length}
 use Rattle.lists.specs.Bytes.{Bytes}
 use Rattle.lists.specs.Count.{bit}
@@ -25,12 +25,13 @@ use Rattle.streams.specs.Frames.{sectorOf, closingOf}
 use Rattle.streams.proofs.Closing.{closing-state}
 use Rattle.streams.proofs.Peak.{peak-limit, end-below}
 use Rattle.streams.proofs.Range.{sector-near, sector-state, closing-near}
-use Rattle.writer.specs.Answers.{closes, sound, ended, sectorRefusal, closingRefusal, sectorNext, sectorOut, closingNext}
-use Rattle.writer.specs.Records.{start, runningOf, recordOf, afterSector, afterClosing}
-use Rattle.writer.specs.Session.{Handed, at-start, after-sector, after-closing}
+use Rattle.writer.specs.Answers.{closes, sound, ended, sectorRefusal, closingRefusal, sectorNext, sectorOut, trialNext, takeRefusal, takeNext, closingNext}
+use Rattle.writer.specs.Records.{start, unmarked, runningOf, recordOf, afterSector, afterClosing}
+use Rattle.writer.specs.Session.{Handed, at-start, after-trial, after-take, after-closing}
 use Rattle.writer.specs.declared.Record.{Record}
 use Rattle.writer.proofs.Signed.{offset-signed, signed-offset, abs-signed, abs-offset}
-use Rattle.writer.proofs.Sound.{Sound, is-sound, near, sound-room, sector-by, closing-by, Open, open-not-ended, OpenSector, sector-opens, OpenEnd, closing-opens}
+use Rattle.writer.proofs.Sound.{Sound, sound-unmarked, is-sound, near, sound-room, sector-by, closing-by, Open, open-not-ended, OpenSector, sector-opens, OpenEnd, closing-opens}
+use Rattle.writer.proofs.Takes.{trial-alone, take-opens}
 
 -- ---- the record stays in range
 
@@ -92,12 +93,15 @@ start-sound =
       peak = omega arith;
     }
 
-sector-keeps : (w : Record) (bs : List ℕ) (to : ℕ) → Bytes bs → Sound w → Sound (sectorNext w bs to)
-unfolding sectorNext
-sector-keeps w bs to hb s = by (eqb (sectorRefusal w (length bs) to) 0) refl
+trial-keeps : (w : Record) (bs : List ℕ) (to : ℕ) → Sound w → Sound (trialNext w bs to)
+trial-keeps w bs to s = sound-unmarked s (sym (trial-alone w bs to))
+
+take-keeps : (w : Record) (bs : List ℕ) (to : ℕ) → Bytes bs → Sound w → Sound (takeNext w bs to)
+unfolding takeNext
+take-keeps w bs to hb s = by (eqb (takeRefusal w bs to) 0) refl
   where
-    by : (x : Bool) → eqb (sectorRefusal w (length bs) to) 0 ≡ x → Sound (cond x (afterSector w bs) w)
-    by true e = sector-sound w bs to (sector-opens w (length bs) to (eqb-true (sectorRefusal w (length bs) to) 0 e)) hb
+    by : (x : Bool) → eqb (takeRefusal w bs to) 0 ≡ x → Sound (cond x (afterSector w bs) w)
+    by true e = sector-sound w bs to (sector-opens w (length bs) to (take-opens w bs to (eqb-true (takeRefusal w bs to) 0 e))) hb
     by false e = s
 
 closing-keeps : (w : Record) (to : ℕ) → Sound w → Sound (closingNext w to)
@@ -110,7 +114,8 @@ closing-keeps w to s = by (eqb (closingRefusal w to) 0) refl
 
 handed-sound : (w : Record) → Handed w → Sound w
 handed-sound w at-start = start-sound
-handed-sound w (after-sector v bs to hb h) = sector-keeps v bs to hb (handed-sound v h)
+handed-sound w (after-trial v bs to h) = trial-keeps v bs to (handed-sound v h)
+handed-sound w (after-take v bs to hb h) = take-keeps v bs to hb (handed-sound v h)
 handed-sound w (after-closing v to h) = closing-keeps v to (handed-sound v h)
 
 sector-nine : (a c d : Bool) → T c → _≡_ {A = ℕ} (cond a (cond c (cond d 7 0) 9) 1) 9 → ⊥
@@ -126,7 +131,7 @@ closing-nine true true true b t e = omega arith
 closing-nine true true false true t e = omega arith
 closing-nine true true false false t e = omega arith
 
--- RANGE: a record that the writer hands back is never refused with 9, neither for a sector nor for closing
+-- RANGE: a record that the writer hands back is never refused with 9, neither for a sector, tried or taken, nor for closing
 pub never-nine :
     (w : Record) → Handed w → (from to : ℕ) → (sectorRefusal w from to ≡ 9 → ⊥) × (closingRefusal w to ≡ 9 → ⊥)
 unfolding sectorRefusal closingRefusal
@@ -138,16 +143,20 @@ never-nine w h from to =
 
 -- ---- the peak
 
--- NEVER FALLS: whatever the call, and whether it is refused
-pub sector-peak-never-falls : (w : Record) (bs : List ℕ) (to : ℕ) → w .peak ≤ sectorNext w bs to .peak
-unfolding sectorNext
-sector-peak-never-falls w bs to = by (eqb (sectorRefusal w (length bs) to) 0)
+-- NEVER FALLS: whatever the call, and whether it is refused. A trial leaves it,
+pub trial-peak : (w : Record) (bs : List ℕ) (to : ℕ) → trialNext w bs to .peak ≡ w .peak
+trial-peak w bs to = ap (λ (v : Record). v .peak) (trial-alone w bs to)
+
+-- a take never lets it fall,
+pub take-peak-never-falls : (w : Record) (bs : List ℕ) (to : ℕ) → w .peak ≤ takeNext w bs to .peak
+unfolding takeNext
+take-peak-never-falls w bs to = by (eqb (takeRefusal w bs to) 0)
   where
     by : (x : Bool) → w .peak ≤ cond x (afterSector w bs) w .peak
     by true = le-max-left (w .peak) _
     by false = omega arith
 
--- closing leaves it
+-- and closing leaves it
 pub closing-peak : (w : Record) (to : ℕ) → closingNext w to .peak ≡ w .peak
 unfolding closingNext
 closing-peak w to = by (eqb (closingRefusal w to) 0)
@@ -182,8 +191,8 @@ sector-next w b out z =
 pub running-record : (r : Running) (p n : ℕ) (c : Bool) → runningOf (recordOf r p n c) ≡ r
 running-record r p n c = ap (λ (d : ℕ). record { state = r .state; level = r .level; dsv = d }) (offset-signed (r .dsv))
 
-pub record-running : (w : Record) (p n : ℕ) → Sound w → p ≡ w .peak → n ≡ w .sectors → w ≡ recordOf (runningOf w) p n (w .closed)
+pub record-running : (w : Record) (p n : ℕ) → Sound w → p ≡ w .peak → n ≡ w .sectors → unmarked w ≡ recordOf (runningOf w) p n (w .closed)
 record-running w p n s ep en =
-    ap (λ (d : ℤ). record { state = w .state; level = w .level; dsv = d; sectors = w .sectors; closed = w .closed; peak = w .peak })
+    ap (λ (d : ℤ). record { state = w .state; level = w .level; dsv = d; sectors = w .sectors; closed = w .closed; peak = w .peak; marked = false; mark = pos 0 })
     (sym (signed-offset (w .dsv) (near w s)))
     ∙ ap₂ (λ (q k : ℕ). recordOf (runningOf w) q k (w .closed)) (sym ep) (sym en)

@@ -30,7 +30,7 @@ no-sector-after = (refl, refl)
 
 -- request 7: the closing code from a State, a level and a DSV, where `negsuc n` is −1 − n. Where both codes of the class leave 7 to either side it is the Primary
 abbrev closingHalves : ℕ → ℕ → ℤ → List ℕ
-closingHalves s l d = closingOf (runningOf (record { state = s; level = l; dsv = d; sectors = 16; closed = false; peak = natAbs d })) .halves
+closingHalves s l d = closingOf (runningOf (record { state = s; level = l; dsv = d; sectors = 16; closed = false; peak = natAbs d; marked = false; mark = pos 0 })) .halves
 
 pub closing-equal :
     (closingHalves 1 0 (pos 3) ≡ 0x1244 ∷ 0x0011 ∷ [])
@@ -51,7 +51,7 @@ closing-tipped = (refl, (refl, (refl, refl)))
 
 -- request 4: number 9 by the peak, for a DSV, a count of sectors, open or closed. Not below the absolute DSV, and in a closed record not by more than 32
 abbrev soundWith : ℤ → ℕ → Bool → ℕ → Bool
-soundWith d n c p = sound (record { state = 1; level = 0; dsv = d; sectors = n; closed = c; peak = p })
+soundWith d n c p = sound (record { state = 1; level = 0; dsv = d; sectors = n; closed = c; peak = p; marked = false; mark = pos 0 })
 
 pub peak-at-dsv :
     (soundWith (negsuc 99) 16 false 100 ≡ true)

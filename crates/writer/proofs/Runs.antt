@@ -1,7 +1,8 @@
--- Laws of the calls over a run of up to 16,777,216 sectors:
+-- Laws of the calls over a run of up to 16,777,216 sectors, by single writes, which trials and takes are (proofs/Takes):
 --   sectors-written, block-written   sectors are not refused where there is room for them, and leave what the rule over all of them says
---   peak-written                         the peak after them is the greatest absolute DSV at the ends of all frames written
---   run-written                          those of a run with the closing code are a permitted stream of it, whose peak is had likewise
+--   peak-written                     the peak after them is the greatest absolute DSV at the ends of all frames written
+--   run-written                      those of a run with the closing code are a permitted stream of it, whose peak is had likewise
+-- the last two of trials and takes (peak-taken, run-taken), and what `write_sectors` leaves (sectors-stay, sectors-done).
 -- Assumes nothing.
 use mathlib.Core.Path.{_≡_, refl, sym, ap, ap₂, subst, _∙_}
 use mathlib.Core.Bool.{Bool, true, false, cond}
@@ -9,15 +10,16 @@ use mathlib.Core.List.{List, [], _∷_, _++_}
 use Prim.Native.Nat.{ℕ, zero, suc, _+_, _*_, _%_, _<_, _≤_, max}
 use native.Mathlib.Nat.{max-zero, zero-max}
 use native.Mathlib.Omega.{arith}
-use borrow.Author.Tests.{eq-eqb}
+use borrow.Author.Tests.{eq-eqb, ne-eqb}
 use lib.Dec.{T, eqb, leb, le→leb}
 use lib.ListN.{length, drop, length-take, length-drop}
+use lib.Seq.{length-take-le}
 use Rattle.lists.specs.Bytes.{Bytes}
 use Rattle.lists.proofs.Bytes.{take-bytes, drop-bytes}
 use Rattle.lists.proofs.Test.{truth-of, and-both}
 use Rattle.bytes.specs.Halves.{packed}
 use Rattle.channel.specs.Block.{Blocks, permittedRun, runStream}
-use Rattle.layout.specs.Lengths.{blockSize, sectorCount, sectorFrames, sectorSize, sectorStream, closingSize, runSectors}
+use Rattle.layout.specs.Lengths.{blockSize, sectorCount, sectorFrames, sectorSize, sectorStream, sectorsStream, closingSize, runSectors}
 use Rattle.levels.specs.declared.Running.{Running}
 use Rattle.bytes.proofs.Halves.{packed-append}
 use Rattle.streams.specs.Frames.{sectorOf, sectorsOf, closingOf, runOf, choicesOf}
@@ -26,27 +28,31 @@ use Rattle.streams.specs.Streams.{Stream}
 use Rattle.streams.proofs.Frames.{run-permitted, run-stream}
 use Rattle.streams.proofs.Closing.{closing-state}
 use Rattle.streams.proofs.Peak.{Greatest, peak-greatest, max-assoc, sectors-peak, run-peak}
-use Rattle.writer.specs.Answers.{sectorRefusal, closingRefusal, closingNext, closingOut}
-use Rattle.writer.specs.Records.{start, runningOf, recordOf, peakAfter, afterSectors, afterSector, afterBlock, afterClosing, afterRun}
-use Rattle.writer.specs.Session.{Session, sectorAt, sectorCalls, runCalls, NoneRefused, Handed, after-sector}
+use Rattle.writer.specs.Answers.{sectorRefusal, sectorsRefusal, sectorsNext, sectorsOut, closingRefusal, closingNext, closingOut}
+use Rattle.writer.specs.Inner.{sectorRoom}
+use Rattle.writer.specs.Records.{start, unmarked, runningOf, recordOf, peakAfter, afterSectors, afterSector, afterBlock, afterClosing, afterRun}
+use Rattle.writer.specs.Session.{Way, writes, takes, Session, sectorAt, sectorCalls, runCalls, NoneRefused, Handed, after-trial, after-take}
 use Rattle.writer.specs.declared.Record.{Record}
-use Rattle.writer.proofs.Sound.{Sound, Open, sector-opens}
+use Rattle.writer.proofs.Sound.{Sound, sound-unmarked, Open, sector-opens, sectors-open}
 use Rattle.writer.proofs.Calls.{sector-sound, start-sound, running-record, record-running, sector-free, closing-free, sector-next}
+use Rattle.writer.proofs.Takes.{trial-and-take}
 
 -- ---- the sectors of a list
 
--- the calls for n sectors of a list from the record w: its record then is sound, and record and bytes are those of the rule
+-- the calls for n sectors of a list from the record w: its record then is sound, and record and bytes are those of the rule, but for a mark where n is 0
 record Going (w : Record) (bs : List ℕ) (n : ℕ) (s : Session) : Type 0 where
   is : Sound (s .next)
-  next-is : s .next ≡ afterSectors w (sectorsOf (runningOf w) bs n) n
+  next-is : unmarked (s .next) ≡ afterSectors w (sectorsOf (runningOf w) bs n) n
+  dropped : 0 < n → s .next ≡ unmarked (s .next)
   laid : s .bytes ≡ packed (sectorsOf (runningOf w) bs n .halves)
 
 -- the calls for n sectors, from a record with room for them: none is refused, and they leave what the rule over all of them says
 pub record SectorsWritten (w : Record) (bs : List ℕ) (outs : ℕ → List ℕ) (n : ℕ) : Type 0 where
-  pub sectors : (k : ℕ) → k < n → sectorRefusal (sectorCalls w bs outs k .next) (length (sectorAt bs k)) (length (outs k)) ≡ 0
+  pub sectors : (k : ℕ) → k < n → sectorRefusal (sectorCalls writes w bs outs k .next) (length (sectorAt bs k)) (length (outs k)) ≡ 0
   pub is : Sound (afterSectors w (sectorsOf (runningOf w) bs n) n)
-  pub next : sectorCalls w bs outs n .next ≡ afterSectors w (sectorsOf (runningOf w) bs n) n
-  pub stream : sectorCalls w bs outs n .bytes ≡ packed (sectorsOf (runningOf w) bs n .halves)
+  pub next : 0 < n → sectorCalls writes w bs outs n .next ≡ afterSectors w (sectorsOf (runningOf w) bs n) n
+  pub peak : sectorCalls writes w bs outs n .next .peak ≡ peakAfter w (sectorsOf (runningOf w) bs n) n
+  pub stream : sectorCalls writes w bs outs n .bytes ≡ packed (sectorsOf (runningOf w) bs n .halves)
 
 -- the same of the sixteen of a block
 abbrev pub BlockWritten : Record → List ℕ → (ℕ → List ℕ) → Type 0
@@ -54,14 +60,19 @@ BlockWritten w bs outs = SectorsWritten w bs outs sectorCount
 
 module _ (w : Record) (bs : List ℕ) (outs : ℕ → List ℕ) (total : ℕ) (o : Open w total) (e : length bs ≡ sectorSize * total) (hb : Bytes bs)
     (ho : (k : ℕ) → k < total → length (outs k) ≡ sectorStream) where
-  going-none : Going w bs 0 (sectorCalls w bs outs 0)
+  going-none : Going w bs 0 (sectorCalls writes w bs outs 0)
   unfolding sectorCalls sectorsOf packed peakOf
   going-none =
-      record { is = o .is; next-is = record-running w (max (w .peak) 0) (w .sectors + 0) (o .is) (max-zero (w .peak)) (omega arith); laid = refl }
+      record {
+        is = o .is;
+        next-is = record-running w (max (w .peak) 0) (w .sectors + 0) (o .is) (max-zero (w .peak)) (omega arith);
+        dropped = λ h. absurd (omega arith);
+        laid = refl;
+      }
 
-  module _ (n : ℕ) (h : n < total) (g : Going w bs n (sectorCalls w bs outs n)) where
+  module _ (n : ℕ) (h : n < total) (g : Going w bs n (sectorCalls writes w bs outs n)) where
     abbrev now : Record
-    now = sectorCalls w bs outs n .next
+    now = sectorCalls writes w bs outs n .next
 
     abbrev before : Stream
     before = sectorsOf (runningOf w) bs n
@@ -101,7 +112,7 @@ module _ (w : Record) (bs : List ℕ) (outs : ℕ → List ℕ) (total : ℕ) (o
         ∙ ap₂ (λ (p k : ℕ). recordOf end p k (now .closed)) peak sectors
         ∙ ap (recordOf end all (w .sectors + suc n)) open-yet
 
-    going-more : Going w bs (suc n) (sectorCalls w bs outs (suc n))
+    going-more : Going w bs (suc n) (sectorCalls writes w bs outs (suc n))
     unfolding sectorCalls sectorsOf
     going-more =
         let are-bytes = take-bytes sectorSize (drop (sectorSize * n) bs) (drop-bytes (sectorSize * n) bs hb) in
@@ -111,13 +122,14 @@ module _ (w : Record) (bs : List ℕ) (outs : ℕ → List ℕ) (total : ℕ) (o
           is =
               subst Sound (x .0)
               (sector-sound now bytes (length (outs n)) (sector-opens now (length bytes) (length (outs n)) sector-not-refused) are-bytes);
-          next-is = sym (x .0) ∙ next-more;
+          next-is = ap unmarked (sym (x .0)) ∙ next-more;
+          dropped = λ h. sym (x .0) ∙ ap unmarked (x .0);
           laid =
               ap₂ (λ (u v : List ℕ). u ++ v) (g .laid) (sym (x .1) ∙ ap (λ (y : Stream). packed (y .halves)) same)
               ∙ sym (packed-append (before .halves) (sectorOf (before .running) bytes .halves));
         }
 
-  going : (n : ℕ) → n ≤ total → Going w bs n (sectorCalls w bs outs n)
+  going : (n : ℕ) → n ≤ total → Going w bs n (sectorCalls writes w bs outs n)
   going zero h = going-none
   going (suc n) h = going-more n (omega arith) (going n (omega arith))
 
@@ -127,8 +139,9 @@ module _ (w : Record) (bs : List ℕ) (outs : ℕ → List ℕ) (total : ℕ) (o
       let g = going total (omega arith) in
       record {
         sectors = λ k h. sector-not-refused k h (going k (omega arith));
-        is = subst Sound (g .next-is) (g .is);
-        next = g .next-is;
+        is = sound-unmarked (g .is) (g .next-is);
+        next = λ some. g .dropped some ∙ g .next-is;
+        peak = ap (λ (v : Record). v .peak) (g .next-is);
         stream = g .laid;
       }
 
@@ -138,23 +151,28 @@ peak-from-start hs n =
     subst (Greatest (runningOf start) hs n) (sym (zero-max (peakOf (runningOf start) hs n))) (peak-greatest (runningOf start) hs n)
 
 -- the calls for n sectors from the first record: what was written, and its peak
-pub record PeakWritten (bs : List ℕ) (outs : ℕ → List ℕ) (n : ℕ) : Type 0 where
-  pub stream : sectorCalls start bs outs n .bytes ≡ packed (sectorsOf (runningOf start) bs n .halves)
-  pub greatest : Greatest (runningOf start) (sectorsOf (runningOf start) bs n .halves) (sectorFrames * n) (sectorCalls start bs outs n .next .peak)
+pub record PeakWritten (way : Way) (bs : List ℕ) (outs : ℕ → List ℕ) (n : ℕ) : Type 0 where
+  pub stream : sectorCalls way start bs outs n .bytes ≡ packed (sectorsOf (runningOf start) bs n .halves)
+  pub greatest : Greatest (runningOf start) (sectorsOf (runningOf start) bs n .halves) (sectorFrames * n) (sectorCalls way start bs outs n .next .peak)
 
 -- THE PEAK: after any list of sectors of a run it is the greatest absolute DSV of the stream written at the ends of all its frames
 pub peak-written :
     (bs : List ℕ) (outs : ℕ → List ℕ) (n : ℕ) → n ≤ runSectors → length bs ≡ sectorSize * n → Bytes bs
-    → ((k : ℕ) → k < n → length (outs k) ≡ sectorStream) → PeakWritten bs outs n
+    → ((k : ℕ) → k < n → length (outs k) ≡ sectorStream) → PeakWritten writes bs outs n
 peak-written bs outs n more e hb ho =
     let hs = sectorsOf (runningOf start) bs n .halves in
     let written = sectors-written start bs outs n (record { is = start-sound; open-yet = refl; more = omega arith }) e hb ho in
     record {
       stream = written .stream;
       greatest =
-          subst (Greatest (runningOf start) hs (sectorFrames * n)) (sym (ap (λ (w : Record). w .peak) (written .next)))
+          subst (Greatest (runningOf start) hs (sectorFrames * n)) (sym (written .peak))
           (peak-from-start hs (sectorFrames * n));
     }
+
+pub peak-taken :
+    (bs : List ℕ) (outs : ℕ → List ℕ) (n : ℕ) → n ≤ runSectors → length bs ≡ sectorSize * n → Bytes bs
+    → ((k : ℕ) → k < n → length (outs k) ≡ sectorStream) → PeakWritten takes bs outs n
+peak-taken bs outs n more e hb ho = subst (λ (way : Way). PeakWritten way bs outs n) (sym trial-and-take) (peak-written bs outs n more e hb ho)
 
 -- A BLOCK, anywhere in a run
 pub block-written :
@@ -163,20 +181,25 @@ pub block-written :
 block-written w bs outs o e hb ho = sectors-written w bs outs sectorCount o e hb ho
 
 -- the records between are handed back
-pub handed-calls : (w : Record) (bs : List ℕ) (outs : ℕ → List ℕ) → Bytes bs → Handed w → (n : ℕ) → Handed (sectorCalls w bs outs n .next)
+handed-takes : (w : Record) (bs : List ℕ) (outs : ℕ → List ℕ) → Bytes bs → Handed w → (n : ℕ) → Handed (sectorCalls takes w bs outs n .next)
 unfolding sectorCalls
-handed-calls w bs outs hb h zero = h
-handed-calls w bs outs hb h (suc n) =
-    after-sector (sectorCalls w bs outs n .next) (sectorAt bs n) (length (outs n))
-    (take-bytes sectorSize (drop (sectorSize * n) bs) (drop-bytes (sectorSize * n) bs hb)) (handed-calls w bs outs hb h n)
+handed-takes w bs outs hb h zero = h
+handed-takes w bs outs hb h (suc n) =
+    let to = length (outs n) in
+    let before = sectorCalls takes w bs outs n .next in
+    after-take _ (sectorAt bs n) to (take-bytes sectorSize (drop (sectorSize * n) bs) (drop-bytes (sectorSize * n) bs hb))
+    (after-trial before (sectorAt bs n) to (handed-takes w bs outs hb h n))
+
+pub handed-calls : (w : Record) (bs : List ℕ) (outs : ℕ → List ℕ) → Bytes bs → Handed w → (n : ℕ) → Handed (sectorCalls writes w bs outs n .next)
+handed-calls w bs outs hb h n = subst (λ (way : Way). Handed (sectorCalls way w bs outs n .next)) trial-and-take (handed-takes w bs outs hb h n)
 
 -- ---- a run
 
 -- the calls over a run and for closing from the record w: none is refused, and what they leave is what the rule over the run says, the record closed
 pub record RunGoing (w : Record) (run : List (List ℕ)) (outs : ℕ → ℕ → List ℕ) (end : List ℕ) : Type 0 where
-  pub refusals : NoneRefused w run outs end
-  pub stream : runCalls w run outs end .bytes ≡ packed (runOf (runningOf w) run .halves)
-  pub next : runCalls w run outs end .next ≡ afterRun w run
+  pub refusals : NoneRefused writes w run outs end
+  pub stream : runCalls writes w run outs end .bytes ≡ packed (runOf (runningOf w) run .halves)
+  pub next : runCalls writes w run outs end .next ≡ afterRun w run
 
 -- the record is sound and open, at whole blocks; there is room for n blocks more, and one was written or will be
 pub record Begins (w : Record) (n : ℕ) : Type 0 where
@@ -228,6 +251,7 @@ run-going (a ∷ run) w outs end b hr ho l =
     let later : ℕ → ℕ → List ℕ = λ j. outs (suc j) in
     let written = block-written w a (outs 0) (begins-open b) (hr .0 .0) (hr .0 .1) (λ k h. ho 0 k (omega arith) h) in
     let rest = run-going run (afterBlock w a) later end (begins-more b written) (hr .1) (λ j k h m. ho (suc j) k (omega arith) m) l in
+    let next-is = written .next (omega arith) in
     let m = sectorsOf (runningOf w) a sectorCount in
     let from : runningOf (afterBlock w a) ≡ m .running = running-record (m .running) (peakAfter w m sectorCount) (w .sectors + sectorCount) (w .closed) in
     let n = sectorCount * length run in
@@ -239,13 +263,13 @@ run-going (a ∷ run) w outs end b hr ho l =
     let closed-from : Running → Record =
     λ r. recordOf (runOf r run .running) (max (afterBlock w a .peak) (peak-from r)) (w .sectors + sectorCount + n) true in
     record {
-      refusals = (written .sectors, subst (λ (v : Record). NoneRefused v run later end) (sym (written .next)) (rest .refusals));
+      refusals = (written .sectors, subst (λ (v : Record). NoneRefused writes v run later end) (sym next-is) (rest .refusals));
       stream =
-          ap₂ (λ (u : List ℕ) (v : Record). u ++ runCalls v run later end .bytes) (written .stream) (written .next)
+          ap₂ (λ (u : List ℕ) (v : Record). u ++ runCalls writes v run later end .bytes) (written .stream) next-is
           ∙ ap (λ (x : List ℕ). packed (m .halves) ++ x) (rest .stream ∙ ap (λ (r : Running). packed (runOf r run .halves)) from)
           ∙ sym (packed-append (m .halves) (runOf (m .running) run .halves));
       next =
-          ap (λ (v : Record). runCalls v run later end .next) (written .next)
+          ap (λ (v : Record). runCalls writes v run later end .next) next-is
           ∙ rest .next
           ∙ ap closed-from from
           ∙ ap₂ (λ (p k : ℕ). recordOf (runOf (m .running) run .running) p k true) peak count;
@@ -253,19 +277,19 @@ run-going (a ∷ run) w outs end b hr ho l =
 
 -- the calls for the sectors of a run and for closing: none is refused, what their buffers hold then is the stream of permitted choices, and the record is that of
 -- the rule over the run, closed; its peak is the greatest at the ends of the run's frames, and the closing code does not count
-pub record RunWritten (run : List (List ℕ)) (outs : ℕ → ℕ → List ℕ) (end : List ℕ) : Type 0 where
-  pub refusals : NoneRefused start run outs end
+pub record RunWritten (way : Way) (run : List (List ℕ)) (outs : ℕ → ℕ → List ℕ) (end : List ℕ) : Type 0 where
+  pub refusals : NoneRefused way start run outs end
   pub choices : T (permittedRun run (choicesOf (runningOf start) run))
-  pub stream : runCalls start run outs end .bytes ≡ runStream run (choicesOf (runningOf start) run)
-  pub next : runCalls start run outs end .next ≡ afterRun start run
+  pub stream : runCalls way start run outs end .bytes ≡ runStream run (choicesOf (runningOf start) run)
+  pub next : runCalls way start run outs end .next ≡ afterRun start run
   pub greatest :
       Greatest (runningOf start) (runOf (runningOf start) run .halves) (sectorFrames * (sectorCount * length run))
-      (runCalls start run outs end .next .peak)
+      (runCalls way start run outs end .next .peak)
 
 -- PERMITTED: from the first record the sectors of one to 1,048,576 blocks and closing are not refused, and their buffers hold a permitted stream of the run
 pub run-written :
     (run : List (List ℕ)) (outs : ℕ → ℕ → List ℕ) (end : List ℕ) → 0 < length run → sectorCount * length run ≤ runSectors → Blocks run
-    → RoomFor outs (length run) → length end ≡ closingSize → RunWritten run outs end
+    → RoomFor outs (length run) → length end ≡ closingSize → RunWritten writes run outs end
 run-written run outs end some more hr ho l =
     let g = run-going run start outs end (begins-start (length run) some more) hr ho l in
     let hs = runOf (runningOf start) run .halves in
@@ -278,8 +302,45 @@ run-written run outs end some more hr ho l =
       greatest = subst (Greatest (runningOf start) hs n) (sym (ap (λ (w : Record). w .peak) (g .next))) (peak-from-start hs n);
     }
 
+-- and so are the trials and takes of its sectors
+pub run-taken :
+    (run : List (List ℕ)) (outs : ℕ → ℕ → List ℕ) (end : List ℕ) → 0 < length run → sectorCount * length run ≤ runSectors → Blocks run
+    → RoomFor outs (length run) → length end ≡ closingSize → RunWritten takes run outs end
+run-taken run outs end some more hr ho l =
+    subst (λ (way : Way). RunWritten way run outs end) (sym trial-and-take) (run-written run outs end some more hr ho l)
+
 -- the State after closing is 1
 pub run-closed-state≡1 : (r : Running) (run : List (List ℕ)) → runOf r run .running .state ≡ 1
 unfolding runOf
 run-closed-state≡1 r [] = closing-state r
 run-closed-state≡1 r (b ∷ run) = run-closed-state≡1 (sectorsOf r b sectorCount .running) run
+
+-- ---- the sectors of a block in the parts of one buffer
+
+-- the parts have the writer's length,
+pub sector-room : (old : List ℕ) → length old ≡ sectorsStream → (k : ℕ) → k < sectorCount → length (sectorRoom old k) ≡ sectorStream
+sector-room old h k m = length-take-le sectorStream (drop (sectorStream * k) old) (omega (arith, length-drop (sectorStream * k) old))
+
+-- so that the sixteen sectors are written
+pub parts-written :
+    (w : Record) (bs old : List ℕ) → Open w sectorCount → length bs ≡ blockSize → Bytes bs → length old ≡ sectorsStream → BlockWritten w bs (sectorRoom old)
+parts-written w bs old o l b h = block-written w bs (sectorRoom old) o l b (sector-room old h)
+
+-- what `write_sectors` leaves, by its number
+module _ (w : Record) (bs out : List ℕ) (no : ℕ) (e : no ≡ sectorsRefusal w (length bs) (length out)) where
+  pub sectors-stay : (no ≡ 0 → ⊥) → (w ≡ sectorsNext w bs (length out)) × (out ≡ sectorsOut w bs out)
+  unfolding sectorsNext sectorsOut
+  sectors-stay h =
+      let f = ne-eqb (sectorsRefusal w (length bs) (length out)) 0 (λ z. h (e ∙ z)) in
+      (rw f, rw f)
+
+  pub sectors-done :
+      no ≡ 0 → Bytes bs
+      → (sectorCalls writes w bs (sectorRoom out) sectorCount .next ≡ sectorsNext w bs (length out))
+      × (sectorCalls writes w bs (sectorRoom out) sectorCount .bytes ≡ sectorsOut w bs out)
+  unfolding sectorsNext sectorsOut
+  sectors-done z hb =
+      let f = eq-eqb (sectorsRefusal w (length bs) (length out)) 0 (sym e ∙ z) in
+      let opens = sectors-open w (length bs) (length out) (sym e ∙ z) in
+      let written = parts-written w bs out (opens .opened) (opens .from-is) hb (opens .to-is) in
+      (written .next (omega arith) ∙ rw f, written .stream ∙ rw f)

@@ -15,16 +15,16 @@ use Rattle.lists.proofs.Test.{truth, and-left, and-right, and-both, and-false, 
 use Rattle.annexg.specs.Read.{State}
 use Rattle.annexg.specs.ZeroRuns.{inside}
 use Rattle.bytes.specs.Halves.{packed}
-use Rattle.layout.specs.Lengths.{sectorBits, sectorCount, sectorFrames, sectorSize, sectorStream, closingSize, runSectors}
+use Rattle.layout.specs.Lengths.{blockSize, sectorBits, sectorCount, sectorFrames, sectorSize, sectorStream, sectorsStream, closingSize, runSectors}
 use Rattle.levels.specs.Level.{zeroAt}
 use Rattle.levels.specs.Inner.{Room}
 use Rattle.levels.specs.declared.Running.{Running}
 use Rattle.streams.specs.Frames.{sectorOf, closingOf}
 use Rattle.streams.specs.Peak.{peakOf}
 use Rattle.streams.proofs.Range.{sector-near, closing-near}
-use Rattle.writer.specs.Answers.{closes, inRange, sound, ended, sectorRefusal, blockRefusal, closingRefusal, sectorNext, sectorOut, closingNext, closingOut}
+use Rattle.writer.specs.Answers.{closes, inRange, sound, ended, sectorRefusal, blockRefusal, sectorsRefusal, closingRefusal, sectorNext, sectorOut, closingNext, closingOut}
 use Rattle.writer.specs.Inner.{SectorBegins}
-use Rattle.writer.specs.Records.{runningOf, recordOf, afterSector, afterClosing}
+use Rattle.writer.specs.Records.{unmarked, runningOf, recordOf, afterSector, afterClosing}
 use Rattle.writer.specs.declared.Record.{Record}
 use Rattle.writer.proofs.Signed.{abs-offset}
 
@@ -221,6 +221,11 @@ module _ (w : Record) where
           high = omega (arith, a, s .dsv, s .sectors, bit-le (w .closed));
         }
 
+-- what is sound is sound with another mark
+pub sound-unmarked : {w v : Record} → Sound w → unmarked w ≡ unmarked v → Sound v
+unfolding sound
+sound-unmarked {w} {v} s e = sound-is v (subst (λ (x : Record). T (sound x)) e (is-sound w s))
+
 -- ---- nothing is refused
 
 -- a sound record with room for n sectors more
@@ -264,6 +269,27 @@ block-opens w z = by (sound w) (ended w sectorCount) refl refl z
     by false d r s z = absurd (omega arith)
     by true true r s z = absurd (omega arith)
     by true false r s z = open-by w sectorCount r s
+
+-- the lengths and the record of the sixteen sectors of a block
+pub record OpenBlock (w : Record) (from to : ℕ) : Type 0 where
+  pub from-is : from ≡ blockSize
+  pub to-is : to ≡ sectorsStream
+  pub opened : Open w sectorCount
+
+pub sectors-open : (w : Record) (from to : ℕ) → sectorsRefusal w from to ≡ 0 → OpenBlock w from to
+unfolding sectorsRefusal
+sectors-open w from to z = by (eqb from blockSize) (eqb to sectorsStream) refl refl z
+  where
+    by :
+        (a b : Bool) → eqb from blockSize ≡ a → eqb to sectorsStream ≡ b → cond (a && b) (blockRefusal w) 1 ≡ 0 → OpenBlock w from to
+    by false b p q z = absurd (omega arith)
+    by true false p q z = absurd (omega arith)
+    by true true p q z = record { from-is = eqb-true from blockSize p; to-is = eqb-true to sectorsStream q; opened = block-opens w z }
+
+pub sectors-by :
+    (w : Record) (from to : ℕ) (a b : Bool) → eqb from blockSize ≡ a → eqb to sectorsStream ≡ b → cond (a && b) (blockRefusal w) 1 ≡ sectorsRefusal w from to
+unfolding sectorsRefusal
+sectors-by w from to a b p q = sym (ap (λ (x : Bool). cond x (blockRefusal w) 1) (ap₂ _&&_ p q))
 
 pub open-taken : (w : Record) → Open w sectorCount → blockRefusal w ≡ 0
 unfolding blockRefusal

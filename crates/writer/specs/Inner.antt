@@ -1,4 +1,5 @@
--- Vocabulary of inner contracts: what the functions of src/sector.rt ask of each other. None of them is public, and no public contract cites it.
+-- Vocabulary of inner contracts: what the functions of src/sector.rt ask of each other, and the parts of a block's stream that src/write.rt lends. None of them is
+-- public, and no public contract cites it.
 -- Assumes nothing.
 use mathlib.Core.Path.{_≡_}
 use mathlib.Core.List.{List}
@@ -31,3 +32,7 @@ pub record SectorBegins (r : Running) (bs out : List ℕ) : Type 0 where
   pub room : Room r sectorBits
   pub bytes : length bs ≡ sectorSize
   pub whole : length out ≡ sectorStream
+
+-- the part of a block's stream buffer that is lent for sector k
+abbrev pub sectorRoom : List ℕ → ℕ → List ℕ
+sectorRoom old k = take sectorStream (drop (sectorStream * k) old)

@@ -1,5 +1,5 @@
 -- The writer's record, and what a sector, a block's sectors and the closing code make of it (document 01, "The choice between two streams"; document 02,
--- request 4, for the peak).
+-- request 4, for the peak, and request 5, for the mark).
 -- Assumes nothing.
 use mathlib.Core.Bool.{Bool, true, false}
 use mathlib.Core.List.{List}
@@ -22,17 +22,26 @@ offset (negsuc n) = zeroAt - suc n
 abbrev pub signed : ℕ → ℤ
 signed d = pos d -ℤ pos zeroAt
 
--- a run starts at State 1, level ZERO, DSV 0, peak 0; its later blocks go on from the record
+-- the record with another mark: the DSV that a trial gave, or none, for which the number is 0 (document 02, request 5)
+abbrev pub markedWith : Record → ℤ → Record
+markedWith w d =
+    record { state = w .state; level = w .level; dsv = w .dsv; sectors = w .sectors; closed = w .closed; peak = w .peak; marked = true; mark = d }
+
+abbrev pub unmarked : Record → Record
+unmarked w =
+    record { state = w .state; level = w .level; dsv = w .dsv; sectors = w .sectors; closed = w .closed; peak = w .peak; marked = false; mark = pos 0 }
+
+-- a run starts at State 1, level ZERO, DSV 0, peak 0, with no mark; its later blocks go on from the record
 abbrev pub start : Record
-start = record { state = 1; level = 0; dsv = pos 0; sectors = 0; closed = false; peak = 0 }
+start = record { state = 1; level = 0; dsv = pos 0; sectors = 0; closed = false; peak = 0; marked = false; mark = pos 0 }
 
 -- the running record from which the next sector or the closing code is laid
 abbrev pub runningOf : Record → Running
 runningOf w = record { state = w .state; level = w .level; dsv = offset (w .dsv) }
 
--- the record with another running record and peak, so many sectors, open or closed
+-- the record with another running record and peak, so many sectors, open or closed; whatever is written drops a mark
 abbrev pub recordOf : Running → ℕ → ℕ → Bool → Record
-recordOf r p n c = record { state = r .state; level = r .level; dsv = signed (r .dsv); sectors = n; closed = c; peak = p }
+recordOf r p n c = record { state = r .state; level = r .level; dsv = signed (r .dsv); sectors = n; closed = c; peak = p; marked = false; mark = pos 0 }
 
 -- the peak after n sectors of the stream m: the greatest of what the record held and of the absolute DSVs at the ends of their frames, 26 a sector
 -- (document 02, request 4)

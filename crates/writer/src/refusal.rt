@@ -7,16 +7,18 @@ ghost use lib.IntN.{natAbs};
 ghost use Rattle.lists.specs.Count.{bit};
 ghost use Rattle.layout.specs.Lengths.{sectorBits, runSectors};
 ghost use Rattle.levels.specs.Level.{zeroAt};
-ghost use Rattle.writer.specs.Records.{offset, signed, runningOf, recordOf};
-ghost use Rattle.writer.specs.Answers.{answerNumber, closes, inRange, sound, sectorRefusal, blockRefusal, closingRefusal};
+ghost use Rattle.writer.specs.Records.{offset, signed, runningOf, recordOf, markedWith};
+ghost use Rattle.writer.specs.Answers.{answerNumber, closes, inRange, sound, sectorRefusal, markRefusal, blockRefusal, sectorsRefusal, closingRefusal};
 use super::Answer;
 use super::Record;
+use layout::BLOCK_SIZE;
 use layout::CLOSING_SIZE;
 use layout::RUN_SECTORS;
 use layout::SECTOR_BITS;
 use layout::SECTOR_COUNT;
 use layout::SECTOR_SIZE;
 use layout::SECTOR_STREAM;
+use layout::SECTORS_STREAM;
 use levels::Running;
 use levels::ZERO_AT;
 
@@ -77,6 +79,24 @@ pub(crate) fn record_of(running: Running, peak: u64, sectors: u32, closed: bool)
         sectors,
         closed,
         peak,
+        marked: false,
+        mark: 0,
+    }
+}
+
+// The record with the mark of a trial that gave this DSV.
+pub(crate) fn marked_with(current: Record, dsv: i64) -> Record
+    ensures { λ r. ⌜ r ≡ markedWith current dsv ⌝ }
+{
+    Record {
+        state: current.state,
+        level: current.level,
+        dsv: current.dsv,
+        sectors: current.sectors,
+        closed: current.closed,
+        peak: current.peak,
+        marked: true,
+        mark: dsv,
     }
 }
 
@@ -199,6 +219,19 @@ pub(crate) fn sector_refusal(current: Record, from: usize, to: usize) -> Answer
     )
 }
 
+// The refusal of a take because of the mark, by the DSV after the sector.
+pub(crate) fn mark_refusal(current: Record, dsv: i64) -> Answer
+    ensures { λ r. ⌜ answerNumber r ≡ markRefusal current dsv ⌝ }
+{
+    if !current.marked {
+        return Answer::NotTried;
+    }
+    if current.mark != dsv {
+        return Answer::OtherDsv;
+    }
+    Answer::Done
+}
+
 // The refusal of the sixteen sectors of a block, because of the record alone.
 pub fn block_refusal(current: Record) -> Answer
     ensures { λ r. ⌜ answerNumber r ≡ blockRefusal current ⌝ }
@@ -208,6 +241,19 @@ pub fn block_refusal(current: Record) -> Answer
         is_ended(current.closed, current.sectors, SECTORS),
         false,
     )
+}
+
+// The same, by the lengths of the block and of its buffer too.
+pub(crate) fn sectors_refusal(current: Record, from: usize, to: usize) -> Answer
+    ensures { λ r. ⌜ answerNumber r ≡ sectorsRefusal current from to ⌝ }
+{
+    if from != BLOCK_SIZE {
+        return Answer::LengthRefused;
+    }
+    if to != SECTORS_STREAM {
+        return Answer::LengthRefused;
+    }
+    block_refusal(current)
 }
 
 // The refusal of closing, by the length of its buffer.

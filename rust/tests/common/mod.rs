@@ -78,13 +78,10 @@ pub fn with_parity(block: &mut [u8; BLOCK]) {
 /// The stream of a block that the block maker did not make.
 pub fn stream_of(block: &[u8; BLOCK]) -> Box<[u8; STREAM]> {
     let mut stream = vec![0; STREAM];
-    let mut writer = chamanzil::Writer::new();
-    for (sector, out) in block.chunks_exact(2366).zip(stream.chunks_exact_mut(4836)) {
-        writer = writer
-            .write_sector(sector.try_into().unwrap(), out.try_into().unwrap())
-            .unwrap();
-    }
-    let closing = &mut stream[77_376..];
+    let (sectors, closing) = stream.split_at_mut(77_376);
+    let writer = chamanzil::Writer::new()
+        .write_sectors(block, sectors.try_into().unwrap())
+        .unwrap();
     writer.close(closing.try_into().unwrap()).unwrap();
     stream.into_boxed_slice().try_into().unwrap()
 }

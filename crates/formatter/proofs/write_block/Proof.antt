@@ -6,15 +6,12 @@ use Prim.Native.Nat.{ℕ}
 use native.Mathlib.Omega.{arith}
 use lib.ListN.{length}
 use Rattle.lists.proofs.Bytes.{bytes-of}
-use Rattle.layout.specs.Lengths.{sectorCount}
 use Rattle.eccblock.specs.Block.{block}
 use Rattle.eccblock.specs.Encode.{encodeRefusal, Accepted}
-use Rattle.eccblock.proofs.Laws.{block-length, block-bytes}
-use Rattle.writer.specs.Session.{sectorCalls}
-use Rattle.writer.proofs.Sound.{block-opens}
+use Rattle.eccblock.proofs.Laws.{block-length}
+use Rattle.writer.specs.Answers.{sectorsNext, sectorsOut}
 use Rattle.formatter.specs.Formatter.{formattedNumber}
-use Rattle.formatter.specs.Inner.{sectorRoom}
-use Rattle.formatter.proofs.Answers.{neither-refuses, length-refused, number-passed, all-left, block-next, block-out, block-made, sectors-written}
+use Rattle.formatter.proofs.Answers.{neither-refuses, length-refused, number-passed, all-left, block-next, block-out, block-made, sectors-next, sectors-out}
 use borrow.Author.Needs.{needs}
 use Rattle.formatter.proofs.write_block.Statement.{statement}
 use Rattle.formatter.proofs.write_block.Tie as tie
@@ -59,7 +56,7 @@ same-length c = search needs
 
 returns-3 : tie.Need-returns-3
 returns-3 c =
-    let written = c .before .before in
+    let written = c .before .before .before in
     let passed = written .before .before .before in
     let numbered = passed .before in
     let made = numbered .before .before in
@@ -78,19 +75,18 @@ returns-3 c =
     let size = ap (λ (n : ℕ). encodeRefusal (a .previous) (length main) n (a .first) (a .info)) (sym (room .block-room .ensures)) in
     let is-block = made .make .ensures .1 ∙ block-made (a .previous) main (a .first) (a .info) _ (size ∙ none .0) in
     let bs = block main (a .first) (a .info) in
-    let wrote =
-    sectors-written w bs (a .out .now) (block-opens w (none .1)) (block-length main (a .first) (a .info) ok) (block-bytes main (a .first) (a .info) ok)
-    (fits .if1 .left) in
+    let size-is = block-length main (a .first) (a .info) ok in
+    let e′ = written .write-sectors .ensures in
     let zero = sym p ∙ taken in (
       p,
       (
-        written .write-sectors .ensures .0
-            ∙ ap (λ (xs : List ℕ). sectorCalls w xs (sectorRoom (a .out .now)) sectorCount .next) is-block
-            ∙ wrote .next
+        e′ .1 .0
+            ∙ ap (λ (xs : List ℕ). sectorsNext w xs (length (a .out .now))) is-block
+            ∙ sectors-next w bs (a .out .now) size-is (fits .if1 .left) (none .1)
             ∙ block-next w (a .previous) main (a .first) (a .info) (a .out .now) zero,
-        written .write-sectors .ensures .1
-            ∙ ap (λ (xs : List ℕ). sectorCalls w xs (sectorRoom (a .out .now)) sectorCount .bytes) is-block
-            ∙ wrote .stream
+        e′ .1 .1
+            ∙ ap (λ (xs : List ℕ). sectorsOut w xs (a .out .now)) is-block
+            ∙ sectors-out w bs (a .out .now) size-is (fits .if1 .left) (none .1)
             ∙ block-out w (a .previous) main (a .first) (a .info) (a .out .now) zero,
       ),
     )

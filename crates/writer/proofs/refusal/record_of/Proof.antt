@@ -1,7 +1,8 @@
 -- `writer::refusal::record_of` meets its contract.
 -- Assumes nothing.
 use mathlib.Core.Path.{ap, _∙_}
-use lib.IntN.{ℤ}
+use mathlib.Core.Bool.{false}
+use lib.IntN.{ℤ, pos}
 use mir.Syntax.{w64}
 use mir.ValLaws.{toZ-ofZ}
 use borrow.Author.Needs.{needs}
@@ -15,7 +16,7 @@ returns : tie.Need-returns
 returns c =
     let a = c .before .args in
     let r = a .running in
-    ap (λ (d : ℤ). record { state = r .state; level = r .level; dsv = d; sectors = a .sectors; closed = a .closed; peak = a .peak })
+    ap (λ (d : ℤ). record { state = r .state; level = r .level; dsv = d; sectors = a .sectors; closed = a .closed; peak = a .peak; marked = false; mark = pos 0 })
     (toZ-ofZ w64 (c .signed-of .result) (record { sfits = c .signed-of .ok }) ∙ c .signed-of .ensures)
 
 pub record-of-spec : {M : Type 1} → statement M

@@ -1,4 +1,4 @@
--- `session::chamanzil_write_sector` meets its contract: a walk of its MIR, by hand. The record's reference and the buffer go to `console::write` for good, at their own
+-- `session::chamanzil_take` meets its contract: a walk of its MIR, by hand. The record's reference and the buffer go to `console::take` for good, at their own
 -- lifetimes, shares and names, and their last values are the ones that the console leaves. The answer goes to `console::answer_number`. All that the proof knows
 -- of the two is that they meet their contracts. Assumes nothing.
 use mathlib.Core.Path.{_≡_, refl, ap}
@@ -41,23 +41,23 @@ use denote.Triple.Walked.{Stays, gave-ref, gave-slice, stay-dropped, walkOf, All
 use denote.Exit.{yes}
 use Rattle.writer.specs.declared.Answer.{Answer}
 use Rattle.writer.specs.declared.Record.{Record}
-use Rattle.writer.specs.Answers.{answerNumber, sectorRefusal, sectorNext, sectorOut}
+use Rattle.writer.specs.Answers.{answerNumber, takeRefusal, takeNext, takeOut}
 use Rattle.writer.proofs.Record as R
 use Rattle.writer.proofs.Answer as E
 use Rattle.writer.proofs.Answer.Laws as E′
 use Rattle.console.proofs.Kept.{says3, heard3}
-use Rattle.console.proofs.write as core
-use Rattle.console.proofs.write.Symbol as core-def
-use Rattle.console.proofs.write.Symbol.{name as #console·write}
-use Rattle.console.proofs.write.Met as core-thm
+use Rattle.console.proofs.take as core
+use Rattle.console.proofs.take.Symbol as core-def
+use Rattle.console.proofs.take.Symbol.{name as #console·take}
+use Rattle.console.proofs.take.Met as core-thm
 use Rattle.console.proofs.answer_number.Symbol as number-def
 use Rattle.console.proofs.answer_number.Symbol.{name as #console·answer-number}
 use Rattle.console.proofs.answer_number.Met as number-thm
 use Rattle.ffi.proofs.Answered.{Function, numbering, Answers, passed, asks, gives}
-use Rattle.ffi.proofs.session.chamanzil_write_sector.Key.{name as #ffi·chamanzil-write-sector}
-use Rattle.ffi.proofs.session.chamanzil_write_sector as f
-use Rattle.ffi.proofs.session.chamanzil_write_sector.Statement as stated
-use Rattle.ffi.proofs.session.chamanzil_write_sector.Code as code
+use Rattle.ffi.proofs.session.chamanzil_take.Key.{name as #ffi·chamanzil-take}
+use Rattle.ffi.proofs.session.chamanzil_take as f
+use Rattle.ffi.proofs.session.chamanzil_take.Statement as stated
+use Rattle.ffi.proofs.session.chamanzil_take.Code as code
 
 abbrev Arg : Type 0
 Arg = RefT Record × (RefT (List ℕ) × (RefT (List ℕ) × Unit {0}))
@@ -88,7 +88,7 @@ module _ {M : Type 1} (𝓤 : URA M) (H : Heap 𝓤) (A : Atoms 𝓤) (W : Given
   abbrev Post : Val → SProp 𝓤
   Post = walkOf 𝓤 H A f.ended stayed (f.clauses 𝓤 H A at-mem run) .post (((κ, (κ₁, (κ′, tt))), (q, (q₁, (q′, tt))), bounds, a, at), tt)
 
-  exits : (n : ℕ) (w : Record) (zs : List ℕ) → n < 2 ^ 32 → n ≡ sectorRefusal h (length xs) (length ys) → w ≡ sectorNext h xs (length ys) → zs ≡ sectorOut h xs ys → length zs ≡ length ys
+  exits : (n : ℕ) (w : Record) (zs : List ℕ) → n < 2 ^ 32 → n ≡ takeRefusal h xs (length ys) → w ≡ takeNext h xs (length ys) → zs ≡ takeOut h xs ys → length zs ≡ length ys
       → ent 𝓤 (⋆ 𝓤 H A ((‵ (flft κ q) ⊛ ‵ (flft κ₁ q₁) ⊛ ‵ (flft κ′ q′) ⊛ ‵ ftrue) ∷ ‵ (finally u8 γ′ zs) ∷ ‵ (fres γ (R.the-row .coded .code w)) ∷ [])) (Post (vint w32 n))
   exits n w zs fits answered kept laid l =
       qed W ((‵ (flft κ q) ⊛ ‵ (flft κ₁ q₁) ⊛ ‵ (flft κ′ q′) ⊛ ‵ ftrue) ∷ ‵ (finally u8 γ′ zs) ∷ ‵ (fres γ (R.the-row .coded .code w)) ∷ []) ∵
@@ -99,7 +99,7 @@ module _ {M : Type 1} (𝓤 : URA M) (H : Heap 𝓤) (A : Atoms 𝓤) (W : Given
   abbrev to-core : Core 𝓤 H A at-mem run .Ghost
   to-core = (((κ, (κ₁, (κ′, tt))), (q, (q₁, (q′, tt))), bounds, a, at), tt)
 
-  module _ (C : Calls 𝓤 H) (Λ : Loops 𝓤 H) (fm : FmC 𝓤 H (W .laws) C) (known : Triple 𝓤 (C #console·write) (Core 𝓤 H A at-mem run)) (numbers : Triple 𝓤 (C #console·answer-number) (Answers number 𝓤 H A)) where
+  module _ (C : Calls 𝓤 H) (Λ : Loops 𝓤 H) (fm : FmC 𝓤 H (W .laws) C) (known : Triple 𝓤 (C #console·take) (Core 𝓤 H A at-mem run)) (numbers : Triple 𝓤 (C #console·answer-number) (Answers number 𝓤 H A)) where
     walk : Room u8 (length xs) → Room u8 (length ys) → ent 𝓤 (onEntry 𝓤 H A f.signature (κ, (κ₁, (κ′, tt))) (q, (q₁, (q′, tt))) a at) (WpFn 𝓤 H C Λ code.function (vptr b o ∷ s₁ ∷ s ∷ []) Post)
     walk room₁ room =
         qed W ((‵ (flft κ q) ⊛ ‵ (flft κ₁ q₁) ⊛ ‵ (flft κ′ q′) ⊛ ‵ ftrue) ∷ ‵ (owns (MutRef (named 0) κ R.the-row ∷ ShrSlice (named 1) κ₁ u8 ∷ MutSlice (named 2) κ′ u8 ∷ []) a at) ∷ []) ∵ enter ! C Λ code.function (vptr b o ∷ s₁ ∷ s ∷ []) _ $
@@ -110,11 +110,11 @@ module _ {M : Type 1} (𝓤 : URA M) (H : Heap 𝓤) (A : Atoms 𝓤) (W : Given
         assigns ! (addr ! (from ! (fld ! refl (hop ! (look-in ! 8 (sub ! 0 refl (whole !))) (stop !))))) (from ! (stop !)) (init ! 2 refl (tt, tt)) $
         assigns ! (agg ! (and-then ! (load ! (from ! (stop !)) (look ! 2 refl)) (and-then ! (load ! (from ! (fld ! refl (stop !))) (look-in ! 8 (sub ! 1 refl (whole !)))) (no-more !)))) (from ! (stop !)) (init ! 0 refl (tt, (tt, (record { fits = room .0 }, tt)))) $
         move ! (16 ∷ 17 ∷ []) $ use2 W (raw (Core 𝓤 H A at-mem run .pre to-core)) (qed W ((‵ (flft κ q) ⊛ ‵ (flft κ₁ q₁) ⊛ ‵ (flft κ′ q′) ⊛ ‵ ftrue) ∷ ‵ (owns (MutRef (named 0) κ R.the-row ∷ ShrSlice (named 1) κ₁ u8 ∷ MutSlice (named 2) κ′ u8 ∷ []) a at) ∷ []) ∵ join ! $ frame ! $ done !) $
-        -- [what `console::write` asks; _7; …]
+        -- [what `console::take` asks; _7; …]
         calls-at ! fm (Core 𝓤 H A at-mem run) known to-core (and-then ! (load ! (from ! (stop !)) (look ! 5 refl)) (and-then ! (load ! (from ! (stop !)) (look ! 11 refl)) (and-then ! (load ! (from ! (stop !)) (look ! 1 refl)) (no-more !)))) (λ v.
         use1 W (later (some (λ (r : Answer). ((‵ (flft κ q) ⊛ ‵ (flft κ₁ q₁) ⊛ ‵ (flft κ′ q′) ⊛ ‵ ftrue) ⊛ ‵ (E.the-row .own r (v ∷ []))) ⊛ raw (ensured 𝓤 H A core.ended (core.clauses 𝓤 H A at-mem run) (κ, (κ₁, (κ′, tt))) a tt r)))) (id⊢ 𝓤 _) $ await ! tt $ pick ! (λ r.
-        split ! $ move ! (1 ∷ []) $ use1 W (some (λ (ws : Record × (Unit {0} × (List ℕ × Unit {0}))). ‵ (lasts core.ended (κ, (κ₁, (κ′, tt))) a ws) ⊛ (raw (fact 𝓤 (answerNumber r ≡ sectorRefusal h (length xs) (length ys))) ⊛ (raw (fact 𝓤 (ws .0 ≡ sectorNext h xs (length ys))) ⊛ raw (fact 𝓤 (ws .1 .1 .0 ≡ sectorOut h xs ys)))))) (id⊢ 𝓤 _) $ pick ! (λ ws.
-        split ! $ move ! (1 ∷ []) $ heard3 ! (answerNumber r ≡ sectorRefusal h (length xs) (length ys)) (ws .0 ≡ sectorNext h xs (length ys)) (ws .1 .1 .0 ≡ sectorOut h xs ys) (λ answered kept laid. fsplit ! $ move ! (1 ∷ []) $ fsplit ! $ move ! (1 ∷ []) $ fsplit ! $ fsplit ! $ move ! (1 ∷ []) $ feqL ! (λ l.
+        split ! $ move ! (1 ∷ []) $ use1 W (some (λ (ws : Record × (Unit {0} × (List ℕ × Unit {0}))). ‵ (lasts core.ended (κ, (κ₁, (κ′, tt))) a ws) ⊛ (raw (fact 𝓤 (answerNumber r ≡ takeRefusal h xs (length ys))) ⊛ (raw (fact 𝓤 (ws .0 ≡ takeNext h xs (length ys))) ⊛ raw (fact 𝓤 (ws .1 .1 .0 ≡ takeOut h xs ys)))))) (id⊢ 𝓤 _) $ pick ! (λ ws.
+        split ! $ move ! (1 ∷ []) $ heard3 ! (answerNumber r ≡ takeRefusal h xs (length ys)) (ws .0 ≡ takeNext h xs (length ys)) (ws .1 .1 .0 ≡ takeOut h xs ys) (λ answered kept laid. fsplit ! $ move ! (1 ∷ []) $ fsplit ! $ move ! (1 ∷ []) $ fsplit ! $ fsplit ! $ move ! (1 ∷ []) $ feqL ! (λ l.
         move ! (4 ∷ []) $ split ! $ move ! (1 ∷ []) $ peeks ! E.the-row (Is E.the-row) (shows 𝓤 H A E.the-row) r (v ∷ []) (λ is.
         -- [what the answer owns; the tokens; the buffer's last list; …; …; the record's last value; _7; …; _6; …; _5; …; _4; …; _3; …; _2; …; _1; …; room for _0; …]
         land ! (from ! (stop !)) (init ! 12 refl (EL.lawful E.the-type E′.the-laws 𝓤 H A W tt .typed r _ is .0)) $
@@ -129,7 +129,7 @@ module _ {M : Type 1} (𝓤 : URA M) (H : Heap 𝓤) (A : Atoms 𝓤) (W : Given
         keep ! (0 ∷ 1 ∷ 4 ∷ []) $ by ! (exits (answerNumber r) (ws .0) (ws .1 .1 .0) (numbered .1) answered kept laid l)))))))))))))))))
 
 module _ {M : Type 1} (𝓤 : URA M) (H : Heap 𝓤) (A : Atoms 𝓤) (W : Given 𝓤 H A) (at-mem : Memory → SProp 𝓤) (run : Routine → Fun 𝓤) where
-  walks : (C : Calls 𝓤 H) (Λ : Loops 𝓤 H) → FmC 𝓤 H (W .laws) C → Triple 𝓤 (C #console·write) (Core 𝓤 H A at-mem run) → Triple 𝓤 (C #console·answer-number) (Answers number 𝓤 H A)
+  walks : (C : Calls 𝓤 H) (Λ : Loops 𝓤 H) → FmC 𝓤 H (W .laws) C → Triple 𝓤 (C #console·take) (Core 𝓤 H A at-mem run) → Triple 𝓤 (C #console·answer-number) (Answers number 𝓤 H A)
       → Walks 𝓤 H A f.ended stayed (WpFn 𝓤 H C Λ code.function) (f.clauses 𝓤 H A at-mem run)
   walks C Λ fm known numbers = walked 𝓤 H A f.ended stayed (f.clauses 𝓤 H A at-mem run) (WpFn 𝓤 H C Λ code.function) (λ κs. (ptr-vals, (slice-vals, (slice-vals, tt)))) (λ κs. (mut-tells (named 0) (κs .0) R.the-row, (shr-slice-tells (named 1) (κs .1 .0) u8, (mut-slice-tells (named 2) (κs .1 .1 .0) u8, tt))))
       (λ κs qs bounds a _ are. via 𝓤 _ (fst∗ 𝓤 _ (emp 𝓤))
@@ -138,17 +138,17 @@ module _ {M : Type 1} (𝓤 : URA M) (H : Heap 𝓤) (A : Atoms 𝓤) (W : Given
   goes : AllGo 𝓤 H A W 3 (f.signature .params) (f.ended .kept) stayed
   goes = (goes-gave-ref 𝓤 H A W 3 0 tt (plain (λ _. R.the-row)), (goes-dropped 𝓤 H A W 3 (shrSliceOf (1 ∷ []) tt (plain (λ _. u8))) yes (λ κs x f. refl), (goes-gave-slice 𝓤 H A W 3 2 tt (plain (λ _. u8)), tt)))
 
-meets : {M : Type 1} (𝓤 : URA M) (H : Heap 𝓤) (A : Atoms 𝓤) → Given 𝓤 H A → (at-mem : Memory → SProp 𝓤) (run : Routine → Fun 𝓤) (𝓣 : Tables 𝓤 H) → Triple 𝓤 (𝓣 .C #console·write) (Core 𝓤 H A at-mem run) → Triple 𝓤 (𝓣 .C #console·answer-number) (Answers number 𝓤 H A)
+meets : {M : Type 1} (𝓤 : URA M) (H : Heap 𝓤) (A : Atoms 𝓤) → Given 𝓤 H A → (at-mem : Memory → SProp 𝓤) (run : Routine → Fun 𝓤) (𝓣 : Tables 𝓤 H) → Triple 𝓤 (𝓣 .C #console·take) (Core 𝓤 H A at-mem run) → Triple 𝓤 (𝓣 .C #console·answer-number) (Answers number 𝓤 H A)
     → Meets 𝓤 H A f.signature (WpFn 𝓤 H (𝓣 .C) (𝓣 .Λ) code.function) (f.spec 𝓤 H A at-mem run)
 meets 𝓤 H A W at-mem run 𝓣 known numbers =
     walk-meets 𝓤 H A f.ended stayed W (goes 𝓤 H A W at-mem run) (f.clauses 𝓤 H A at-mem run) (WpFn 𝓤 H (𝓣 .C) (𝓣 .Λ) code.function) (WpFn-mono 𝓤 H (W .laws) 𝓣 code.function)
     (walks 𝓤 H A W at-mem run (𝓣 .C) (𝓣 .Λ) (fmOf 𝓤 H (W .laws) 𝓣) known numbers)
 
-pub chamanzil-write-sector-spec : {M : Type 1} → stated.statement M
+pub chamanzil-take-spec : {M : Type 1} → stated.statement M
 unfolding code.routine tablesOf
-chamanzil-write-sector-spec 𝓤 H 𝓜 𝓖 𝓡 =
+chamanzil-take-spec 𝓤 H 𝓜 𝓖 𝓡 =
     entered 𝓤 H (tripleOf 𝓤 H (𝓖 .A) f.signature (f.spec 𝓤 H (𝓖 .A) (𝓜 .mem) (𝓡 .run)))
-    (tables 𝓤 H 𝓜 𝓡 code.env .C) (tables 𝓤 H 𝓜 𝓡 code.env .Λ) #ffi·chamanzil-write-sector code.function (code.unfolded 𝓤 H 𝓜 𝓡)
+    (tables 𝓤 H 𝓜 𝓡 code.env .C) (tables 𝓤 H 𝓜 𝓡 code.env .Λ) #ffi·chamanzil-take code.function (code.unfolded 𝓤 H 𝓜 𝓡)
     (meets 𝓤 H (𝓖 .A) (givenOf 𝓤 H 𝓜 𝓖) (𝓜 .mem) (𝓡 .run) (tablesOf 𝓤 H 𝓜 (tables 𝓤 H 𝓜 𝓡 code.env))
-    (cited 𝓤 H (Core 𝓤 H (𝓖 .A) (𝓜 .mem) (𝓡 .run)) 𝓜 𝓡 code.env #console·write core-def.routine code.calls-console·write (core-thm.met 𝓤 H 𝓜 𝓖 𝓡))
+    (cited 𝓤 H (Core 𝓤 H (𝓖 .A) (𝓜 .mem) (𝓡 .run)) 𝓜 𝓡 code.env #console·take core-def.routine code.calls-console·take (core-thm.met 𝓤 H 𝓜 𝓖 𝓡))
     (cited 𝓤 H (Answers number 𝓤 H (𝓖 .A)) 𝓜 𝓡 code.env #console·answer-number number-def.routine code.calls-console·answer-number (number-thm.met 𝓤 H 𝓜 𝓖 𝓡)))

@@ -1,14 +1,15 @@
--- `write_sectors` meets its contract. Assumes nothing.
+-- `writer::write::write_each` meets its contract.
+-- Assumes nothing.
 use mathlib.Core.Path.{_≡_, refl, sym, ap, _∙_}
 use mathlib.Core.List.{List}
 use Prim.Native.Nat.{ℕ, _+_, _-_, _*_, _≤_}
 use lib.ListN.{length, take, drop}
 use Rattle.layout.specs.Lengths.{sectorCount, sectorSize, sectorStream, sectorsStream}
-use Rattle.formatter.proofs.Sectors.{Written, written-none, written-more, written-length, written-all}
+use Rattle.writer.proofs.Each.{Written, written-none, written-more, written-length, written-all}
 use native.Mathlib.Omega.{arith}
 use borrow.Author.Needs.{needs}
-use Rattle.formatter.proofs.write_sectors.Statement.{statement}
-use Rattle.formatter.proofs.write_sectors.Tie as tie
+use Rattle.writer.proofs.write.write_each.Statement.{statement}
+use Rattle.writer.proofs.write.write_each.Tie as tie
 
 abbrev Inv-loop : tie.InvT-loop
 Inv-loop block out₀ w₀ k₀ out w k = (k ≤ sectorCount) × Written w₀ block out₀ k w out × (length out ≡ sectorsStream)
@@ -93,8 +94,8 @@ returns c =
     let g : Written (a .current) (a .block .now) (a .out .now) sectorCount (l .w) (l .out) = rw e at (l .inv .1) in
     (g .next, written-all (a .current) (a .block .now) (a .out .now) (l .w) (l .out) (entry .pre .1) g)
 
-pub write-sectors-spec : {M : Type 1} → statement M
-write-sectors-spec =
+pub write-each-spec : {M : Type 1} → statement M
+write-each-spec =
     tie.close
     (tie.spec
     Inv-loop

@@ -1,6 +1,6 @@
--- `console::write` meets its contract: a walk of its MIR, by hand. The record's borrow is opened, the record is copied out, and it goes to `writer::write_sector`
+-- `console::take` meets its contract: a walk of its MIR, by hand. The record's borrow is opened, the record is copied out, and it goes to `writer::take`
 -- with the bytes and the buffer, at their own lifetimes and names. The next record of the result is stored, the borrow is closed at it, and the answer is returned.
--- All that the proof knows of `writer::write_sector` is that it meets its contract. Assumes nothing.
+-- All that the proof knows of `writer::take` is that it meets its contract. Assumes nothing.
 use mathlib.Core.Path.{_≡_, refl, ap}
 use mathlib.Core.Bool.{cond}
 use Prim.Native.Nat.{ℕ, _-_, _*_}
@@ -46,22 +46,22 @@ use denote.Triple.Walked.{Stays, stay-ref, gave-slice, stay-dropped, walkOf, All
 use denote.Exit.{yes}
 use Rattle.writer.specs.declared.Record.{Record}
 use Rattle.writer.specs.declared.Step.{Step}
-use Rattle.writer.specs.Answers.{answerNumber, sectorRefusal, sectorNext, sectorOut}
+use Rattle.writer.specs.Answers.{answerNumber, takeRefusal, takeNext, takeOut}
 use Rattle.writer.proofs.Record as T
 use Rattle.writer.proofs.Record.Laws as T′
 use Rattle.writer.proofs.Step as S
 use Rattle.writer.proofs.Step.Laws as S′
 use Rattle.writer.proofs.Answer as E
 use Rattle.writer.proofs.Answer.Laws as E′
-use Rattle.writer.proofs.write_sector as core
-use Rattle.writer.proofs.write_sector.Symbol as core-def
-use Rattle.writer.proofs.write_sector.Symbol.{name as #writer·write-sector}
-use Rattle.writer.proofs.write_sector.Met as core-thm
-use Rattle.console.proofs.write.Key.{name as #console·write}
-use Rattle.console.proofs.write as write
-use Rattle.console.proofs.write.Statement as stated
-use Rattle.console.proofs.write.Code as code
-use Rattle.console.proofs.write.Code.Mir as statements
+use Rattle.writer.proofs.take as core
+use Rattle.writer.proofs.take.Symbol as core-def
+use Rattle.writer.proofs.take.Symbol.{name as #writer·take}
+use Rattle.writer.proofs.take.Met as core-thm
+use Rattle.console.proofs.take.Key.{name as #console·take}
+use Rattle.console.proofs.take as f
+use Rattle.console.proofs.take.Statement as stated
+use Rattle.console.proofs.take.Code as code
+use Rattle.console.proofs.take.Code.Mir as statements
 use Rattle.console.proofs.Kept.{copied, Held, says3}
 
 -- the local whose record the code stores behind the reference: 4 has the one before the call, 6 the one that came back
@@ -71,13 +71,13 @@ stored = copied statements.s-6 refl
 abbrev Arg : Type 0
 Arg = RefT Record × (RefT (List ℕ) × (RefT (List ℕ) × Unit {0}))
 
-abbrev stayed : Stays (write.ended .signature .params) (write.ended .kept)
+abbrev stayed : Stays (f.ended .signature .params) (f.ended .kept)
 stayed = (stay-ref (0 ∷ []) tt (plain (λ _. T.the-row)), (stay-dropped (shrSliceOf (1 ∷ []) tt (plain (λ _. u8))) yes, (gave-slice (2 ∷ []) tt (plain (λ _. u8)), tt)))
 
 abbrev Core : {M : Type 1} (𝓤 : URA M) (H : Heap 𝓤) (A : Atoms 𝓤) (mem : Memory → SProp 𝓤) (run : Routine → Fun 𝓤) → Contract 𝓤
 Core 𝓤 H A mem run = tripleOf 𝓤 H A core.signature (core.spec 𝓤 H A mem run)
 
-module _ {M : Type 1} (𝓤 : URA M) (H : Heap 𝓤) (A : Atoms 𝓤) (W : Given 𝓤 H A) (at-mem : Memory → SProp 𝓤) (run : Routine → Fun 𝓤) (κ κ₁ κ′ : Lft) (bounds : AllOutlive 3 (write.signature .outlives) (κ, (κ₁, (κ′, tt)))) (q q₁ q′ : Share) (b o : ℕ) (γ : GName) (h : Record) (b₁ o₁ : ℕ) (γ₁ : GName) (xs : List ℕ) (b′ o′ : ℕ) (γ′ : GName) (ys : List ℕ) where
+module _ {M : Type 1} (𝓤 : URA M) (H : Heap 𝓤) (A : Atoms 𝓤) (W : Given 𝓤 H A) (at-mem : Memory → SProp 𝓤) (run : Routine → Fun 𝓤) (κ κ₁ κ′ : Lft) (bounds : AllOutlive 3 (f.signature .outlives) (κ, (κ₁, (κ′, tt)))) (q q₁ q′ : Share) (b o : ℕ) (γ : GName) (h : Record) (b₁ o₁ : ℕ) (γ₁ : GName) (xs : List ℕ) (b′ o′ : ℕ) (γ′ : GName) (ys : List ℕ) where
   -- the bytes and the buffer, and their machine values
   abbrev x₁ : RefT (List ℕ)
   x₁ = record { ptr = (b₁, o₁); name = γ₁; now = xs }
@@ -102,17 +102,17 @@ module _ {M : Type 1} (𝓤 : URA M) (H : Heap 𝓤) (A : Atoms 𝓤) (W : Given
   mach = LL.val T.the-type T′.the-laws
 
   abbrev Post : Val → SProp 𝓤
-  Post = walkOf 𝓤 H A write.ended stayed (write.clauses 𝓤 H A at-mem run) .post (((κ, (κ₁, (κ′, tt))), (q, (q₁, (q′, tt))), bounds, a, at), tt)
+  Post = walkOf 𝓤 H A f.ended stayed (f.clauses 𝓤 H A at-mem run) .post (((κ, (κ₁, (κ′, tt))), (q, (q₁, (q′, tt))), bounds, a, at), tt)
 
   abbrev Said : Step → List ℕ → Type 0
-  Said r zs = (answerNumber (r .answer) ≡ sectorRefusal h (length xs) (length ys)) × ((r .next ≡ sectorNext h xs (length ys)) × (zs ≡ sectorOut h xs ys))
+  Said r zs = (answerNumber (r .answer) ≡ takeRefusal h xs (length ys)) × ((r .next ≡ takeNext h xs (length ys)) × (zs ≡ takeOut h xs ys))
 
   -- what is left when the record w is kept
-  exits : (r : Step) (w : Record) (v : Val) (zs : List ℕ) → Is E.the-row (r .answer) (v ∷ []) → Said r zs → w ≡ sectorNext h xs (length ys) → length zs ≡ length ys
+  exits : (r : Step) (w : Record) (v : Val) (zs : List ℕ) → Is E.the-row (r .answer) (v ∷ []) → Said r zs → w ≡ takeNext h xs (length ys) → length zs ≡ length ys
       → ent 𝓤 (⋆ 𝓤 H A (‵ (fobs γ (T.the-row .coded .code w)) ∷ ‵ (fbor κ (Body (mem (T.the-row)) b o γ)) ∷ ‵ (flft κ q) ∷ (‵ (flft κ₁ q₁) ⊛ ‵ (flft κ′ q′) ⊛ ‵ ftrue) ∷ ‵ (finally u8 γ′ zs) ∷ [])) (Post v)
   exits r w v zs is e kept l =
       qed W (‵ (fobs γ (T.the-row .coded .code w)) ∷ ‵ (fbor κ (Body (mem (T.the-row)) b o γ)) ∷ ‵ (flft κ q) ∷ (‵ (flft κ₁ q₁) ⊛ ‵ (flft κ′ q′) ⊛ ‵ ftrue) ∷ ‵ (finally u8 γ′ zs) ∷ []) ∵
-      suffices ! _ (ends-at 𝓤 H A write.ended stayed (write.clauses 𝓤 H A at-mem run) W (((κ, (κ₁, (κ′, tt))), (q, (q₁, (q′, tt))), bounds, a, at), tt) v (r .answer) (w, (tt, (zs, tt))) (tt, (tt, (l, tt)))) $
+      suffices ! _ (ends-at 𝓤 H A f.ended stayed (f.clauses 𝓤 H A at-mem run) W (((κ, (κ₁, (κ′, tt))), (q, (q₁, (q′, tt))), bounds, a, at), tt) v (r .answer) (w, (tt, (zs, tt))) (tt, (tt, (l, tt)))) $
       says3 ! (e .0) kept (e .1 .1) $ move ! (2 ∷ 3 ∷ []) $ join ! $ frame ! $
       feqI ! (List Val) (vptr b o ∷ []) (vptr b o ∷ []) refl $ fjoin3 ! $ nothing ! $ move ! (2 ∷ 0 ∷ []) $ fjoin ! $ nothing ! $ fjoin ! $ move ! (1 ∷ 0 ∷ []) $ fjoin ! $
       owned ! E.the-row (Is E.the-row) (EL.makes E.the-type E′.the-plain 𝓤 H A) (r .answer) _ is $ move ! (1 ∷ 0 ∷ []) $ done !
@@ -125,8 +125,8 @@ module _ {M : Type 1} (𝓤 : URA M) (H : Heap 𝓤) (A : Atoms 𝓤) (W : Given
       qed W ((‵ (flft κ₁ q₁) ⊛ ‵ (flft κ′ q′) ⊛ ‵ ftrue) ∷ ‵ (owns (ShrSlice (named 0) κ₁ u8 ∷ MutSlice (named 1) κ′ u8 ∷ []) (x₁, (x, tt)) (s₁ ∷ [], (s ∷ [], tt))) ∷ ‵ (T.the-row .own h (mach h ∷ [])) ∷ []) ∵
       move ! (2 ∷ 1 ∷ []) $ fjoin ! $ move ! (1 ∷ 0 ∷ []) $ join ! $ frame ! $ done !
 
-  module _ (C : Calls 𝓤 H) (Λ : Loops 𝓤 H) (fm : FmC 𝓤 H (W .laws) C) (known : Triple 𝓤 (C #writer·write-sector) (Core 𝓤 H A at-mem run)) where
-    walk : Room u8 (length xs) → Room u8 (length ys) → ent 𝓤 (onEntry 𝓤 H A write.signature (κ, (κ₁, (κ′, tt))) (q, (q₁, (q′, tt))) a at) (WpFn 𝓤 H C Λ code.function (vptr b o ∷ s₁ ∷ s ∷ []) Post)
+  module _ (C : Calls 𝓤 H) (Λ : Loops 𝓤 H) (fm : FmC 𝓤 H (W .laws) C) (known : Triple 𝓤 (C #writer·take) (Core 𝓤 H A at-mem run)) where
+    walk : Room u8 (length xs) → Room u8 (length ys) → ent 𝓤 (onEntry 𝓤 H A f.signature (κ, (κ₁, (κ′, tt))) (q, (q₁, (q′, tt))) a at) (WpFn 𝓤 H C Λ code.function (vptr b o ∷ s₁ ∷ s ∷ []) Post)
     walk room₁ room =
         qed W ((‵ (flft κ q) ⊛ ‵ (flft κ₁ q₁) ⊛ ‵ (flft κ′ q′) ⊛ ‵ ftrue) ∷ ‵ (owns (MutRef (named 0) κ T.the-row ∷ ShrSlice (named 1) κ₁ u8 ∷ MutSlice (named 2) κ′ u8 ∷ []) a at) ∷ []) ∵ enter ! C Λ code.function (vptr b o ∷ s₁ ∷ s ∷ []) _ $
         alloc1 ! (λ l₀. alloc1 ! (λ l₁. alloc1 ! (λ l₂. alloc1 ! (λ l₃. alloc1 ! (λ l₄. alloc1 ! (λ l₅. alloc1 ! (λ l₆. alloc1 ! (λ l₇. alloc1 ! (λ l₈. alloc0 ! $ params1 ! $
@@ -140,7 +140,7 @@ module _ {M : Type 1} (𝓤 : URA M) (H : Heap 𝓤) (A : Atoms 𝓤) (W : Given
         assigns ! (addr ! (from ! (fld ! refl (hop ! (look-in ! 17 (sub ! 0 refl (whole !))) (stop !))))) (from ! (stop !)) (init ! 9 refl (tt, tt)) $
         assigns ! (agg ! (and-then ! (load ! (from ! (stop !)) (look ! 9 refl)) (and-then ! (load ! (from ! (fld ! refl (stop !))) (look-in ! 17 (sub ! 1 refl (whole !)))) (no-more !)))) (from ! (stop !)) (init ! 7 refl (tt, (tt, (record { fits = room .0 }, tt)))) $
         move ! (5 ∷ 6 ∷ 1 ∷ []) $ use3 W (raw (Core 𝓤 H A at-mem run .pre to-core)) goes-core $
-        -- [what `writer::write_sector` asks; the cell; the open borrow; obs; auth; _8; …]
+        -- [what `writer::take` asks; the cell; the open borrow; obs; auth; _8; …]
         calls-at ! fm (Core 𝓤 H A at-mem run) known to-core (and-then ! (load ! (from ! (stop !)) (look ! 13 refl)) (and-then ! (load ! (from ! (stop !)) (look ! 17 refl)) (and-then ! (load ! (from ! (stop !)) (look ! 5 refl)) (no-more !)))) (λ w.
         use1 W (later (some (λ (r : Step). ((‵ (flft κ₁ q₁) ⊛ ‵ (flft κ′ q′) ⊛ ‵ ftrue) ⊛ ‵ (S.the-row .own r (w ∷ []))) ⊛ raw (ensured 𝓤 H A core.ended (core.clauses 𝓤 H A at-mem run) (κ₁, (κ′, tt)) (h, (x₁, (x, tt))) tt r)))) (id⊢ 𝓤 _) $ await ! tt $ pick ! (λ r.
         split ! $ move ! (1 ∷ []) $ use1 W (some (λ (zs : Unit {0} × (Unit {0} × (List ℕ × Unit {0}))). ‵ (lasts core.ended (κ₁, (κ′, tt)) (h, (x₁, (x, tt))) zs) ⊛ raw (fact 𝓤 (Said r (zs .1 .1 .0))))) (id⊢ 𝓤 _) $ pick ! (λ zs.
@@ -150,9 +150,9 @@ module _ {M : Type 1} (𝓤 : URA M) (H : Heap 𝓤) (A : Atoms 𝓤) (W : Given
         land ! (from ! (stop !)) (init ! 16 refl (LL.lawful S.the-type S′.the-laws 𝓤 H A W .typed r _ is .0)) $ rewrite ! 16 (λ (u : Val). ‵ (fat fullShare S′.mir l₅ 0 u)) (ap only (LL.tells S.the-type S′.the-laws r _ is)) refl $
         assigns ! (of-opd ! (load ! (from ! (fld ! refl (stop !))) (look-in ! 16 (sub ! 0 refl (whole !))))) (from ! (stop !)) (init ! 14 refl (LL.lawful T.the-type T′.the-laws 𝓤 H A W .typed (r .next) _ (LL.owed S.the-type S′.the-laws r _ is .0) .0)) $
         -- the record of the local that the code names is stored
-        let before : Held = record { of = h; at = mach h; is = g } in
-        let after : Held = record { of = r .next; at = S′.the-laws .0 .val ((S.the-type .to r) .0); is = LL.owed S.the-type S′.the-laws r _ is .0 } in
-        let w : Held = cond (eqb stored 6) after before in
+        let old : Held = record { of = h; at = mach h; is = g } in
+        let new : Held = record { of = r .next; at = S′.the-laws .0 .val ((S.the-type .to r) .0); is = LL.owed S.the-type S′.the-laws r _ is .0 } in
+        let w : Held = cond (eqb stored 6) new old in
         assigns ! (of-opd ! (load ! (from ! (stop !)) (look ! (26 - 2 * stored) refl))) (from ! (hop ! (look ! 24 refl) (stop !))) (store-raw ! 6 refl (LL.lawful T.the-type T′.the-laws 𝓤 H A W .typed (w .of) _ (w .is) .0)) $
         assigns ! (of-opd ! (load ! (from ! (fld ! refl (stop !))) (look-in ! 16 (sub ! 1 refl (whole !))))) (from ! (stop !)) (init ! 26 refl (EL.lawful E.the-type E′.the-laws 𝓤 H A W tt .typed (r .answer) _ (LL.owed S.the-type S′.the-laws r _ is .1 .0) .0)) $
         -- the borrow is closed at it
@@ -163,24 +163,24 @@ module _ {M : Type 1} (𝓤 : URA M) (H : Heap 𝓤) (A : Atoms 𝓤) (W : Given
         keep ! (0 ∷ 1 ∷ 2 ∷ 3 ∷ 4 ∷ []) $ by ! (exits r (w .of) (S′.the-laws .1 .0 .val ((S.the-type .to r) .1 .0)) (zs .1 .1 .0) (LL.owed S.the-type S′.the-laws r _ is .1 .0) e (e .1 .0) l))))))))))))))))))
 
 module _ {M : Type 1} (𝓤 : URA M) (H : Heap 𝓤) (A : Atoms 𝓤) (W : Given 𝓤 H A) (at-mem : Memory → SProp 𝓤) (run : Routine → Fun 𝓤) where
-  write-walks : (C : Calls 𝓤 H) (Λ : Loops 𝓤 H) → FmC 𝓤 H (W .laws) C → Triple 𝓤 (C #writer·write-sector) (Core 𝓤 H A at-mem run) → Walks 𝓤 H A write.ended stayed (WpFn 𝓤 H C Λ code.function) (write.clauses 𝓤 H A at-mem run)
-  write-walks C Λ fm known = walked 𝓤 H A write.ended stayed (write.clauses 𝓤 H A at-mem run) (WpFn 𝓤 H C Λ code.function) (λ κs. (ptr-vals, (slice-vals, (slice-vals, tt)))) (λ κs. (mut-tells (named 0) (κs .0) T.the-row, (shr-slice-tells (named 1) (κs .1 .0) u8, (mut-slice-tells (named 2) (κs .1 .1 .0) u8, tt))))
+  walks : (C : Calls 𝓤 H) (Λ : Loops 𝓤 H) → FmC 𝓤 H (W .laws) C → Triple 𝓤 (C #writer·take) (Core 𝓤 H A at-mem run) → Walks 𝓤 H A f.ended stayed (WpFn 𝓤 H C Λ code.function) (f.clauses 𝓤 H A at-mem run)
+  walks C Λ fm known = walked 𝓤 H A f.ended stayed (f.clauses 𝓤 H A at-mem run) (WpFn 𝓤 H C Λ code.function) (λ κs. (ptr-vals, (slice-vals, (slice-vals, tt)))) (λ κs. (mut-tells (named 0) (κs .0) T.the-row, (shr-slice-tells (named 1) (κs .1 .0) u8, (mut-slice-tells (named 2) (κs .1 .1 .0) u8, tt))))
       (λ κs qs bounds a _ are. via 𝓤 _ (fst∗ 𝓤 _ (emp 𝓤))
       (walk 𝓤 H A W at-mem run (κs .0) (κs .1 .0) (κs .1 .1 .0) bounds (qs .0) (qs .1 .0) (qs .1 .1 .0) (a .0 .ptr .0) (a .0 .ptr .1) (a .0 .name) (a .0 .now) (a .1 .0 .ptr .0) (a .1 .0 .ptr .1) (a .1 .0 .name) (a .1 .0 .now) (a .1 .1 .0 .ptr .0) (a .1 .1 .0 .ptr .1) (a .1 .1 .0 .name) (a .1 .1 .0 .now) C Λ fm known (are .1 .0 .0 .1) (are .1 .1 .0 .0 .1)))
 
-  goes : AllGo 𝓤 H A W 3 (write.signature .params) (write.ended .kept) stayed
+  goes : AllGo 𝓤 H A W 3 (f.signature .params) (f.ended .kept) stayed
   goes = (goes-ref 𝓤 H A W 3 0 tt (plain (λ _. T.the-row)), (goes-dropped 𝓤 H A W 3 (shrSliceOf (1 ∷ []) tt (plain (λ _. u8))) yes (λ κs x f. refl), (goes-gave-slice 𝓤 H A W 3 2 tt (plain (λ _. u8)), tt)))
 
-write-meets : {M : Type 1} (𝓤 : URA M) (H : Heap 𝓤) (A : Atoms 𝓤) → Given 𝓤 H A → (at-mem : Memory → SProp 𝓤) (run : Routine → Fun 𝓤) (𝓣 : Tables 𝓤 H) → Triple 𝓤 (𝓣 .C #writer·write-sector) (Core 𝓤 H A at-mem run)
-    → Meets 𝓤 H A write.signature (WpFn 𝓤 H (𝓣 .C) (𝓣 .Λ) code.function) (write.spec 𝓤 H A at-mem run)
-write-meets 𝓤 H A W at-mem run 𝓣 known =
-    walk-meets 𝓤 H A write.ended stayed W (goes 𝓤 H A W at-mem run) (write.clauses 𝓤 H A at-mem run) (WpFn 𝓤 H (𝓣 .C) (𝓣 .Λ) code.function) (WpFn-mono 𝓤 H (W .laws) 𝓣 code.function)
-    (write-walks 𝓤 H A W at-mem run (𝓣 .C) (𝓣 .Λ) (fmOf 𝓤 H (W .laws) 𝓣) known)
+meets : {M : Type 1} (𝓤 : URA M) (H : Heap 𝓤) (A : Atoms 𝓤) → Given 𝓤 H A → (at-mem : Memory → SProp 𝓤) (run : Routine → Fun 𝓤) (𝓣 : Tables 𝓤 H) → Triple 𝓤 (𝓣 .C #writer·take) (Core 𝓤 H A at-mem run)
+    → Meets 𝓤 H A f.signature (WpFn 𝓤 H (𝓣 .C) (𝓣 .Λ) code.function) (f.spec 𝓤 H A at-mem run)
+meets 𝓤 H A W at-mem run 𝓣 known =
+    walk-meets 𝓤 H A f.ended stayed W (goes 𝓤 H A W at-mem run) (f.clauses 𝓤 H A at-mem run) (WpFn 𝓤 H (𝓣 .C) (𝓣 .Λ) code.function) (WpFn-mono 𝓤 H (W .laws) 𝓣 code.function)
+    (walks 𝓤 H A W at-mem run (𝓣 .C) (𝓣 .Λ) (fmOf 𝓤 H (W .laws) 𝓣) known)
 
-pub write-spec : {M : Type 1} → stated.statement M
+pub take-spec : {M : Type 1} → stated.statement M
 unfolding code.routine tablesOf
-write-spec 𝓤 H 𝓜 𝓖 𝓡 =
-    entered 𝓤 H (tripleOf 𝓤 H (𝓖 .A) write.signature (write.spec 𝓤 H (𝓖 .A) (𝓜 .mem) (𝓡 .run)))
-    (tables 𝓤 H 𝓜 𝓡 code.env .C) (tables 𝓤 H 𝓜 𝓡 code.env .Λ) #console·write code.function (code.unfolded 𝓤 H 𝓜 𝓡)
-    (write-meets 𝓤 H (𝓖 .A) (givenOf 𝓤 H 𝓜 𝓖) (𝓜 .mem) (𝓡 .run) (tablesOf 𝓤 H 𝓜 (tables 𝓤 H 𝓜 𝓡 code.env))
-    (cited 𝓤 H (Core 𝓤 H (𝓖 .A) (𝓜 .mem) (𝓡 .run)) 𝓜 𝓡 code.env #writer·write-sector core-def.routine code.calls-writer·write-sector (core-thm.met 𝓤 H 𝓜 𝓖 𝓡)))
+take-spec 𝓤 H 𝓜 𝓖 𝓡 =
+    entered 𝓤 H (tripleOf 𝓤 H (𝓖 .A) f.signature (f.spec 𝓤 H (𝓖 .A) (𝓜 .mem) (𝓡 .run)))
+    (tables 𝓤 H 𝓜 𝓡 code.env .C) (tables 𝓤 H 𝓜 𝓡 code.env .Λ) #console·take code.function (code.unfolded 𝓤 H 𝓜 𝓡)
+    (meets 𝓤 H (𝓖 .A) (givenOf 𝓤 H 𝓜 𝓖) (𝓜 .mem) (𝓡 .run) (tablesOf 𝓤 H 𝓜 (tables 𝓤 H 𝓜 𝓡 code.env))
+    (cited 𝓤 H (Core 𝓤 H (𝓖 .A) (𝓜 .mem) (𝓡 .run)) 𝓜 𝓡 code.env #writer·take core-def.routine code.calls-writer·take (core-thm.met 𝓤 H 𝓜 𝓖 𝓡)))

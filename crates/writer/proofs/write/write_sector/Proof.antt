@@ -1,4 +1,4 @@
--- `writer::write_sector` meets its contract: it is refused, or the sector is laid.
+-- `writer::write::write_sector` meets its contract: it is refused, or the sector is laid.
 -- Assumes nothing.
 use mathlib.Core.Path.{sym, ap, subst, _∙_}
 use native.Mathlib.Omega.{arith}
@@ -8,8 +8,8 @@ use Rattle.streams.specs.Frames.{sectorOf}
 use Rattle.writer.specs.Inner.{SectorBegins}
 use Rattle.writer.proofs.Numbers.{done-number, refused-number}
 use Rattle.writer.proofs.Sound.{sector-opens, sector-begins, sector-refused, sector-done, sector-small, near}
-use Rattle.writer.proofs.write_sector.Statement.{statement}
-use Rattle.writer.proofs.write_sector.Tie as tie
+use Rattle.writer.proofs.write.write_sector.Statement.{statement}
+use Rattle.writer.proofs.write.write_sector.Tie as tie
 
 sector-refusal-requires : tie.Need-sector-refusal-requires
 sector-refusal-requires c κs = search needs

@@ -1,4 +1,4 @@
--- The sectors that the loop has written.
+-- The sectors of a block that the loop of `write_each` has written.
 -- Assumes nothing.
 use mathlib.Core.List.{List, _++_, append-assoc, append-nil}
 use mathlib.Core.Path.{_≡_, refl, sym, ap, ap₂, subst, _∙_}
@@ -8,14 +8,14 @@ use native.Mathlib.Omega.{arith}
 use lib.ListN.{length, take, drop, length-append, length-drop}
 use lib.Seq.{take-at, drop-at, drop-drop, drop-length, length-take-le}
 use Rattle.layout.specs.Lengths.{sectorCount, sectorStream, sectorsStream}
 use Rattle.writer.specs.Answers.{sectorNext, sectorOut}
-use Rattle.writer.specs.Session.{Session, sectorAt, sectorCalls}
+use Rattle.writer.specs.Session.{Session, writes, sectorAt, sectorCalls}
 use Rattle.writer.specs.declared.Record.{Record}
-use Rattle.formatter.specs.Inner.{sectorRoom}
+use Rattle.writer.specs.Inner.{sectorRoom}
 
 -- the calls for the first k sectors, from the record w₀
 abbrev pub calls : Record → List ℕ → List ℕ → ℕ → Session
-calls w₀ bs old k = sectorCalls w₀ bs (sectorRoom old) k
+calls w₀ bs old k = sectorCalls writes w₀ bs (sectorRoom old) k
 
 -- after k sectors of the block bs the record is w, and the stream, which held old, holds out
 pub record Written (w₀ : Record) (bs old : List ℕ) (k : ℕ) (w : Record) (out : List ℕ) : Type 0 where
