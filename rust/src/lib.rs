@@ -15,7 +15,8 @@
 //! ```
 //!
 //! Blocks that follow on are a run, which a [`Writer`] writes: 77,376 bytes a block, and the closing code after the last. Block k is read from the 77,380 bytes at
-//! 77,376 k: its sectors and the four bytes after them.
+//! 77,376 k: its sectors and the four bytes after them. Sector by sector, [`Writer::trial`] tells the DSV after a sector before it is written, and hands out the
+//! [`Trial`] that takes it.
 #[doc(hidden)]
 pub mod raw;
 mod refusal;

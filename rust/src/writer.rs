@@ -242,7 +242,12 @@ impl Writer {
     }
 }
 
-/// A sector that a [`Writer`] tried: the DSV after it, and the writer that takes it. Taking is the only thing that it can do, so that no take is without a trial.
+/// A sector that a [`Writer`] tried: the DSV after it, and the writer that takes it. Nothing else can take, so that no take is without a trial:
+///
+/// ```compile_fail
+/// use chamanzil::{Writer, SECTOR, SECTOR_STREAM};
+/// Writer::new().take(&[7; SECTOR], &mut [0; SECTOR_STREAM]);
+/// ```
 ///
 /// ```
 /// use chamanzil::{Refusal, Writer, SECTOR, SECTOR_STREAM};

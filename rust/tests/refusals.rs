@@ -1,4 +1,4 @@
-//! Each of the papers' refusals 1 to 10, with every lent buffer and record compared before and after.
+//! Each of the papers' refusals, 1 to 10, 12 and 13, with every lent buffer and record compared before and after.
 mod common;
 
 use chamanzil::{encode_block, ied, slices, Record, Refusal, Writer};

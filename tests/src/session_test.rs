@@ -77,18 +77,24 @@ fn record(fields: &[&str]) -> Record {
     Record { closed: n(4) == 1, peak: n(5) as u64, mark: fields[6].parse().ok(), ..Record::open(n(0) as u8, n(1) as u8, n(2), n(3) as u32) }
 }
 
+/// A sector from a record.
+fn laid(t: &Tables, bytes: &[u8], from: &Record) -> Laid {
+    let mut record = *from;
+    (write_sector(t, &mut record, bytes).0, record)
+}
+
 /// A call in the words of the vectors: its answer in theirs. What takes and closings write is added to a stream.
 fn call(report: &mut Report, t: &Tables, kept: &mut Record, words: &[&str], stream: &mut Vec<u8>) -> String {
     let to = |at: usize, usual: usize| words.get(at).map_or(usual, |n| n.parse().unwrap());
-    let bytes = || data(words[1]);
-    let lay = |bytes: Vec<u8>| move |record: &Record| (|mut r: Record| (write_sector(t, &mut r, &bytes).0, r))(*record);
+    let bytes = if matches!(words[0], "trial" | "take") { data(words[1]) } else { Vec::new() };
+    let lay = |record: &Record| laid(t, &bytes, record);
     let answer = match words[0] {
         "set" => {
             *kept = record(&words[1..]);
             Ok("set".into())
         }
-        "trial" => trial(report, kept, &bytes(), to(2, LAID), lay(bytes())).map(|dsv| format!("dsv {dsv}")),
-        "take" => take(report, kept, &bytes(), to(2, LAID), lay(bytes())).map(|laid| {
+        "trial" => trial(report, kept, &bytes, to(2, LAID), lay).map(|dsv| format!("dsv {dsv}")),
+        "take" => take(report, kept, &bytes, to(2, LAID), lay).map(|laid| {
             stream.extend(&laid);
             format!("taken {:016X}", hash(&laid))
         }),
@@ -123,15 +129,15 @@ pub fn vectors(report: &mut Report) {
 struct Sectors<'a> {
     t: &'a Tables,
     bytes: Vec<Vec<u8>>,
-    laid: HashMap<(usize, u8, u8, i64), Laid>,
+    known: HashMap<(usize, u8, u8, i64), Laid>,
 }
 
 impl Sectors<'_> {
     fn lay(&mut self, k: usize, from: &Record) -> Laid {
-        let Sectors { t, bytes, laid } = self;
-        let (stream, after) = laid.entry((k, from.state, from.level, from.dsv)).or_insert_with(|| {
-            let mut record = Record { peak: 0, ..Record::open(from.state, from.level, from.dsv, 0) };
-            (write_sector(t, &mut record, &bytes[k]).0, record)
+        let Sectors { t, bytes, known } = self;
+        let (stream, after) = known.entry((k, from.state, from.level, from.dsv)).or_insert_with(|| {
+            let alone = Record { peak: 0, ..Record::open(from.state, from.level, from.dsv, 0) };
+            laid(t, &bytes[k], &alone)
         });
         let (sectors, peak) = (from.sectors + 1, from.peak.max(after.peak));
         (stream.clone(), Record { sectors, peak, closed: from.closed, ..*after })
@@ -198,7 +204,7 @@ impl Session<'_, '_> {
 pub fn random_sessions(report: &mut Report, random: &mut Random, t: &Tables, count: usize) {
     report.begin("sessions: random trials, takes and closings");
     let bytes = (0..16).map(|k| if k < 12 { random.bytes(SECTOR) } else { random_sector(random) }).collect();
-    let mut sectors = Sectors { t, bytes, laid: HashMap::new() };
+    let mut sectors = Sectors { t, bytes, known: HashMap::new() };
     let mut seen = BTreeMap::new();
     for _ in 0..count {
         let mut session = Session { sectors: &mut sectors, kept: first_record(random), tried: 0 };

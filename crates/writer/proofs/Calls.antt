@@ -19,13 +19,14 @@ use Rattle.lists.specs.Count.{bit}
 use Rattle.lists.proofs.Test.{truth}
 use Rattle.annexg.specs.Read.{State}
 use Rattle.bytes.specs.Halves.{packed}
-use Rattle.layout.specs.Lengths.{sectorBits, sectorFrames, sectorSize, sectorStream, closingSize}
+use Rattle.layout.specs.Lengths.{blockSize, sectorBits, sectorCount, sectorFrames, sectorSize, sectorStream, sectorsStream, closingSize}
 use Rattle.levels.specs.declared.Running.{Running}
 use Rattle.streams.specs.Frames.{sectorOf, closingOf}
 use Rattle.streams.proofs.Closing.{closing-state}
 use Rattle.streams.proofs.Peak.{peak-limit, end-below}
 use Rattle.streams.proofs.Range.{sector-near, sector-state, closing-near}
-use Rattle.writer.specs.Answers.{closes, sound, ended, sectorRefusal, closingRefusal, sectorNext, sectorOut, trialNext, takeRefusal, takeNext, closingNext}
+use Rattle.writer.specs.Answers.{closes, sound, ended, sectorRefusal, sectorNext, sectorOut, sectorDsv, trialNext, sameDsv, takeRefusal, takeNext}
+use Rattle.writer.specs.Answers.{blockRefusal, sectorsRefusal, closingRefusal, closingNext}
 use Rattle.writer.specs.Records.{start, unmarked, runningOf, recordOf, afterSector, afterClosing}
 use Rattle.writer.specs.Session.{Handed, at-start, after-trial, after-take, after-closing}
 use Rattle.writer.specs.declared.Record.{Record}
@@ -131,15 +132,35 @@ closing-nine true true true b t e = omega arith
 closing-nine true true false true t e = omega arith
 closing-nine true true false false t e = omega arith
 
--- RANGE: a record that the writer hands back is never refused with 9, neither for a sector, tried or taken, nor for closing
-pub never-nine :
-    (w : Record) → Handed w → (from to : ℕ) → (sectorRefusal w from to ≡ 9 → ⊥) × (closingRefusal w to ≡ 9 → ⊥)
-unfolding sectorRefusal closingRefusal
-never-nine w h from to =
-    let t = is-sound w (handed-sound w h) in (
-      sector-nine (eqb from sectorSize && eqb to sectorStream) (sound w) (ended w 1) t,
-      closing-nine (eqb to closingSize) (sound w) (w .closed) (closes (w .sectors)) t,
-    )
+take-nine : (m d : Bool) (n : ℕ) → (n ≡ 9 → ⊥) → (b : Bool) → cond b (cond m (cond d 0 13) 12) n ≡ 9 → ⊥
+take-nine m d n h false e = h e
+take-nine false d n h true e = omega arith
+take-nine true false n h true e = omega arith
+take-nine true true n h true e = omega arith
+
+-- no call refuses the record with 9, whatever else it is lent
+pub record NeverNine (w : Record) : Type 0 where
+  pub trial : (from to : ℕ) → sectorRefusal w from to ≡ 9 → ⊥
+  pub take : (bs : List ℕ) (to : ℕ) → takeRefusal w bs to ≡ 9 → ⊥
+  pub sectors : (from to : ℕ) → sectorsRefusal w from to ≡ 9 → ⊥
+  pub closing : (to : ℕ) → closingRefusal w to ≡ 9 → ⊥
+
+-- RANGE: a record that the writer hands back is never refused with 9
+pub never-nine : (w : Record) → Handed w → NeverNine w
+unfolding sectorRefusal takeRefusal sectorsRefusal blockRefusal closingRefusal
+never-nine w h =
+    let t = is-sound w (handed-sound w h) in
+    let trial : (from to : ℕ) → sectorRefusal w from to ≡ 9 → ⊥ =
+    λ from to. sector-nine (eqb from sectorSize && eqb to sectorStream) (sound w) (ended w 1) t in
+    record {
+      trial = trial;
+      take =
+          λ bs to.
+          let no = sectorRefusal w (length bs) to in
+          take-nine (w .marked) (sameDsv (w .mark) (sectorDsv w bs)) no (trial (length bs) to) (eqb no 0);
+      sectors = λ from to. sector-nine (eqb from blockSize && eqb to sectorsStream) (sound w) (ended w sectorCount) t;
+      closing = λ to. closing-nine (eqb to closingSize) (sound w) (w .closed) (closes (w .sectors)) t;
+    }
 
 -- ---- the peak
 

@@ -115,20 +115,20 @@ pub fn take(current: Record, bytes: &[u8], out: &mut [u8]) -> Step
 }
 
 // The sixteen sectors of a block of 37,856 bytes, laid as 77,376.
-pub fn write_sectors(current: Record, bytes: &[u8], out: &mut [u8]) -> Step
+pub fn write_sectors(current: Record, block: &[u8], out: &mut [u8]) -> Step
     ensures { λ r. ⌜ (answerNumber (r .answer)
-        ≡ sectorsRefusal current (length (now (bytes .entry))) (length (now (out .entry))))
-        × ((r .next ≡ sectorsNext current (now (bytes .entry)) (length (now (out .entry))))
-        × (now (out .exit) ≡ sectorsOut current (now (bytes .entry)) (now (out .entry)))) ⌝ }
+        ≡ sectorsRefusal current (length (now (block .entry))) (length (now (out .entry))))
+        × ((r .next ≡ sectorsNext current (now (block .entry)) (length (now (out .entry))))
+        × (now (out .exit) ≡ sectorsOut current (now (block .entry)) (now (out .entry)))) ⌝ }
 {
-    let answer = refusal::sectors_refusal(current, bytes.len(), out.len());
+    let answer = refusal::sectors_refusal(current, block.len(), out.len());
     let Answer::Done = answer else {
         return Step {
             next: current,
             answer,
         };
     };
-    let next = write::write_each(current, bytes, &mut *out);
+    let next = write::write_each(current, block, &mut *out);
     Step { next, answer }
 }
 

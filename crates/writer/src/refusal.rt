@@ -85,16 +85,16 @@ pub(crate) fn record_of(running: Running, peak: u64, sectors: u32, closed: bool)
 }
 
 // The record with the mark of a trial that gave this DSV.
-pub(crate) fn marked_with(current: Record, dsv: i64) -> Record
-    ensures { λ r. ⌜ r ≡ markedWith current dsv ⌝ }
+pub(crate) fn marked_with(before: Record, dsv: i64) -> Record
+    ensures { λ r. ⌜ r ≡ markedWith before dsv ⌝ }
 {
     Record {
-        state: current.state,
-        level: current.level,
-        dsv: current.dsv,
-        sectors: current.sectors,
-        closed: current.closed,
-        peak: current.peak,
+        state: before.state,
+        level: before.level,
+        dsv: before.dsv,
+        sectors: before.sectors,
+        closed: before.closed,
+        peak: before.peak,
         marked: true,
         mark: dsv,
     }

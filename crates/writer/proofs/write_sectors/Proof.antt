@@ -21,7 +21,7 @@ returns c =
     let asked = c .before in
     let a = asked .before .before .before .args in
     let number = asked .sectors-refusal .ensures in
-    (number, sectors-stay (a .current) (a .bytes .now) (a .out .now) _ number (refused-number (asked .sectors-refusal .result) (c .match .keys2)))
+    (number, sectors-stay (a .current) (a .block .now) (a .out .now) _ number (refused-number (asked .sectors-refusal .result) (c .match .keys2)))
 
 write-each-requires : tie.Need-write-each-requires
 write-each-requires c κs =
@@ -44,8 +44,8 @@ returns-2 c =
     let a = known .before .args in
     let number = asked .sectors-refusal .ensures in
     let done = done-number (asked .sectors-refusal .result) (matched .match .keys1) in
-    let bytes = bytes-of (a .bytes .now) (λ i h. omega (arith, known .shared-slice-known .given i)) in
-    let laid = sectors-done (a .current) (a .bytes .now) (a .out .now) _ number done bytes in
+    let bytes = bytes-of (a .block .now) (λ i h. omega (arith, known .shared-slice-known .given i)) in
+    let laid = sectors-done (a .current) (a .block .now) (a .out .now) _ number done bytes in
     (number, (written .write-each .ensures .0 ∙ laid .0, written .write-each .ensures .1 ∙ laid .1))
 
 pub write-sectors-spec : {M : Type 1} → statement M
