@@ -1,6 +1,6 @@
 -- Trial and take (document 02, request 5), over any record:
 --   trial-and-take, sectors-taken      the two together, with the same bytes, are the single write, and so over every list of sectors
---   trial-passes                       what a trial lets pass, the take of the same bytes does not refuse
+--   trial-passes, trial-tells          what a trial lets pass, the take of the same bytes does not refuse, and its DSV is the one that the trial gave
 --   trial-alone, trial-replaces        a trial changes nothing but the mark, and a second one replaces it
 --   take-untried, take-other           12 and 13
 --   take-drops, closing-drops, sectors-drop      what is written drops the mark
@@ -201,6 +201,10 @@ module _ (w : Record) (bs : List ℕ) (to : ℕ) where
   take-next : takeNext (trialNext w bs to) bs to ≡ sectorNext w bs to
   unfolding takeNext sectorNext
   take-next = ap (λ (n : ℕ). cond (eqb n 0) (afterSector (trialNext w bs to) bs) (trialNext w bs to)) take-number ∙ tried-next
+
+  -- TELLS: the DSV that a trial gives is the one that the record has after the take
+  pub trial-tells : sectorRefusal w (length bs) to ≡ 0 → trialNext w bs to .mark ≡ takeNext (trialNext w bs to) bs to .dsv
+  trial-tells z = ap (λ (v : Record). v .mark) (trial-marks w bs to z) ∙ ap (λ (v : Record). v .dsv) (sym (take-next ∙ sector-after w bs to z))
 
 take-out : (w : Record) (bs out : List ℕ) → takeOut (trialNext w bs (length out)) bs out ≡ sectorOut w bs out
 unfolding takeOut sectorOut
