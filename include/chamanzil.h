@@ -7,9 +7,13 @@
  * written (no `const`) overlaps no other argument; nor does a record. What was written is all of a buffer or nothing: no call leaves a half-filled buffer. A `bool`
  * is 0 or 1 and nothing else.
  *
- * Answers. 0: done. 1 to 10, 12 and 13: refused, by the numbers below, and then every buffer and record is as it was, except where a function says otherwise.
- * Where several numbers apply, the lowest is given, but 10 goes right after 3, and 9 before 7 and 8. Where none applies, nothing is refused. Every refusal is
- * below 256; from 256 on are the outcomes of a call that was not refused.
+ * Answers. 0: done. 1 to 13: refused, by the numbers below, and then every buffer and record is as it was, except where a function says otherwise. Where
+ * several numbers apply, the lowest is given, but 10 goes right after 3, 11 after 1 and before 4, and 9 before 7 and 8. Where none applies, nothing is refused.
+ * Every refusal is below 256; from 256 on are the outcomes of a call that was not refused.
+ *
+ * Erasures. The marks of document 02: one byte for each byte of a sector, a block or a row, in the same order, which is 1 where the Code Word is in no table and
+ * 0 elsewhere. The sector reader fills them, and the repair of the rows uses them: with f marked bytes, wrong or right, and e wrong bytes without a mark, a row is
+ * repaired while 2e + f is at most 10. So ten marked bytes come back, and without marks five. Who has no marks passes zeros.
  *
  * Runs. A run is a list of blocks that follow on: the first number of each is 16 more than that of the block before. Its stream has the sixteen sectors of each
  * block, CHAMANZIL_BLOCK_STREAM bytes a block, and the closing code after the last. Block k of it, from 0, is read from the CHAMANZIL_STREAM bytes at
@@ -74,6 +78,7 @@ enum {
     CHAMANZIL_UNFINISHED = 8,     /* closing at no sectors, or at a count that is no multiple of 16 */
     CHAMANZIL_RECORD = 9,         /* a record that the writer never hands out */
     CHAMANZIL_SEQUENCE = 10,      /* the first number is not the previous block's first number plus 16 */
+    CHAMANZIL_ERASURE = 11,       /* a mark is neither 0 nor 1 */
     CHAMANZIL_NOT_TRIED = 12,     /* a take, and no trial is marked in the record */
     CHAMANZIL_OTHER_DSV = 13      /* a take of a sector whose DSV is not the one that the trial gave */
 };
@@ -149,24 +154,32 @@ uint32_t chamanzil_close(struct chamanzil_record *kept, uint8_t *out, size_t out
 
 /* ---- from a stream back to main data */
 
-/* The sector reader. `stream` has CHAMANZIL_SECTOR_READ bytes, `out` CHAMANZIL_SECTOR, `report` CHAMANZIL_SECTOR_REPORT numbers. 0 or 1: no damage is
- * refused here. After 0 `out` holds the bytes read, 0 for an unknown word, and `report` the unknown words and the SYNC places that hold none of the codes due
- * there. After 1 both are as they were. */
-uint32_t chamanzil_read_sector(const uint8_t *stream, size_t stream_len, uint8_t *out, size_t out_len, uint32_t *report, size_t report_len);
+/* The sector reader. `stream` has CHAMANZIL_SECTOR_READ bytes, `out` and `erasures` CHAMANZIL_SECTOR each, `report` CHAMANZIL_SECTOR_REPORT numbers. 0 or 1: no
+ * damage is refused here. After 0 `out` holds the bytes read, 0 for an unknown word, `erasures` 1 for an unknown word and 0 for any other, and `report` the
+ * unknown words and the SYNC places that hold none of the codes due there. After 1 all three are as they were. */
+uint32_t chamanzil_read_sector(const uint8_t *stream, size_t stream_len, uint8_t *out, size_t out_len, uint8_t *erasures, size_t erasures_len, uint32_t *report,
+    size_t report_len);
 
-/* The block repairer. `block` has CHAMANZIL_BLOCK bytes, sixteen answers of the sector reader; `main` CHAMANZIL_MAIN; `report` CHAMANZIL_REPAIR_REPORT numbers.
- * 0, 1, 4, 5 or 6. Each row becomes the code row within five bytes or stays, then each of the first 172 columns the code column within eight.
+/* The block repairer. `block` has CHAMANZIL_BLOCK bytes, sixteen answers of the sector reader; `erasures` as many, their marks; `main` CHAMANZIL_MAIN; `report`
+ * CHAMANZIL_REPAIR_REPORT numbers. 0, 1, 11, 4, 5 or 6, in this order where several apply. Each row, with f marks, becomes the one code row that differs from it
+ * in e bytes without a mark, 2e + f at most 10, or stays; with more than ten marks it stays and is past help, also where it is a code row. Then each of the first
+ * 172 columns becomes the code column within eight bytes, or stays: columns have no marks.
  * After 0 `main` holds the main data, `block` the block after both repairs, and `report` the first number, the rows changed, the rows past help, the columns
  * changed, the columns past help, 0. After 4, 5 or 6 `main` is as it was, `block` holds the block after both repairs, and `report` five zeros and the first
- * frame that fails, 0 to 15. After 1 all three are as they were. */
-uint32_t chamanzil_repair_block(uint8_t *block, size_t block_len, uint8_t *main, size_t main_len, uint32_t *report, size_t report_len);
+ * frame that fails, 0 to 15. After 1 or 11 all three are as they were.
+ * A block that is refused with its marks can be one that is read without: a row of more than ten unknown words may be nearly right all the same. Who wants such a
+ * block tries again with zeros, on the block as it was read; EDC judges both. */
+uint32_t chamanzil_repair_block(uint8_t *block, size_t block_len, const uint8_t *erasures, size_t erasures_len, uint8_t *main, size_t main_len, uint32_t *report,
+    size_t report_len);
 
-/* The whole-block reader: sixteen sectors, then the repairer. `stream` has CHAMANZIL_STREAM bytes, a block's sectors and the four bytes after them, by which the
- * last word is judged: a closing code or the next block's SYNC Code. `block` has CHAMANZIL_BLOCK bytes, `main` CHAMANZIL_MAIN, `report` CHAMANZIL_BLOCK_REPORT
- * numbers. 0, 1, 4, 5 or 6, with `block` and `main` as the repairer leaves them; what `block` held before does not matter. After 0 `report` holds the first
- * number, the rows changed and past help, the columns changed and past help, the unknown words and the SYNC places without a code due there, summed over the
- * sectors, and 0. After 4, 5 or 6 it holds seven zeros and the frame. After 1 all three are as they were. */
-uint32_t chamanzil_read_block(const uint8_t *stream, size_t stream_len, uint8_t *block, size_t block_len, uint8_t *main, size_t main_len, uint32_t *report, size_t report_len);
+/* The whole-block reader: sixteen sectors, then the repairer with their marks. `stream` has CHAMANZIL_STREAM bytes, a block's sectors and the four bytes after
+ * them, by which the last word is judged: a closing code or the next block's SYNC Code. `block` and `erasures` have CHAMANZIL_BLOCK bytes each, `main`
+ * CHAMANZIL_MAIN, `report` CHAMANZIL_BLOCK_REPORT numbers. 0, 1, 4, 5 or 6, with `block` and `main` as the repairer leaves them; what `block` and `erasures` held
+ * before does not matter. After 0 `report` holds the first number, the rows changed and past help, the columns changed and past help, the unknown words and the
+ * SYNC places without a code due there, summed over the sectors, and 0. After 4, 5 or 6 it holds seven zeros and the frame. After all of these `erasures` holds
+ * the marks of the sectors. After 1 all four are as they were. */
+uint32_t chamanzil_read_block(const uint8_t *stream, size_t stream_len, uint8_t *block, size_t block_len, uint8_t *erasures, size_t erasures_len, uint8_t *main,
+    size_t main_len, uint32_t *report, size_t report_len);
 
 /* ---- rows and columns of a block */
 
@@ -176,10 +189,11 @@ uint32_t chamanzil_row_parity(const uint8_t *word, size_t word_len, uint8_t *out
 uint32_t chamanzil_column_parity(const uint8_t *word, size_t word_len, uint8_t *out, size_t out_len);
 uint32_t chamanzil_ied(const uint8_t *id, size_t id_len, uint8_t *out, size_t out_len);
 
-/* The repair in place of a row of CHAMANZIL_ROW bytes with at most five wrong, of a column of CHAMANZIL_COLUMN bytes with at most eight. 0: it was a code
- * word. CHAMANZIL_CORRECTED: it became the one near it. CHAMANZIL_UNCORRECTABLE: there is none near enough, and it is as it was. 1: another length, and it is
- * as it was. */
-uint32_t chamanzil_correct_row(uint8_t *row, size_t row_len);
+/* The repair in place of a row of CHAMANZIL_ROW bytes with as many marks in `erasures`, while 2e + f is at most 10; of a column of CHAMANZIL_COLUMN bytes with at
+ * most eight wrong. 0: it was a code word, a row with at most ten marks. CHAMANZIL_CORRECTED: it became the one near it. CHAMANZIL_UNCORRECTABLE: there is none
+ * near enough, or a row has more than ten marks, and it is as it was. 1, or 11 after it: another length, or a mark of a row that is neither 0 nor 1, and it is as
+ * it was. */
+uint32_t chamanzil_correct_row(uint8_t *row, size_t row_len, const uint8_t *erasures, size_t erasures_len);
 uint32_t chamanzil_correct_column(uint8_t *column, size_t column_len);
 
 /* ---- Code Words and streams */

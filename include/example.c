@@ -1,5 +1,6 @@
-/* Formats a block, sector by sector with trials, damages its stream and reads it back, then writes a run of two blocks and reads each, by the calls of chamanzil.h. Exits with 1 where anything
- * differs from what is due. It is C99 and also C++: include/run compiles it as both. */
+/* Formats a block, sector by sector with trials, damages its stream and reads it back, in one call and sector by sector with the marks of unknown words, then
+ * writes a run of two blocks and reads each, by the calls of chamanzil.h. Exits with 1 where anything differs from what is due. It is C99 and also C++:
+ * include/run compiles it as both. */
 #include "chamanzil.h"
 
 #include <stdio.h>
@@ -11,6 +12,7 @@ static uint8_t block[CHAMANZIL_BLOCK];
 static uint8_t stream[CHAMANZIL_STREAM];
 static uint8_t whole[CHAMANZIL_STREAM];
 static uint8_t read_block[CHAMANZIL_BLOCK];
+static uint8_t erasures[CHAMANZIL_BLOCK];
 static uint8_t read_main[CHAMANZIL_MAIN];
 static uint8_t run[2 * CHAMANZIL_BLOCK_STREAM + CHAMANZIL_CLOSING];
 
@@ -71,14 +73,109 @@ static void format(uint32_t first, uint8_t info)
     expect(chamanzil_close(&kept, stream + CHAMANZIL_SECTORS * CHAMANZIL_SECTOR_STREAM, CHAMANZIL_CLOSING) == CHAMANZIL_ENDED, "closing twice");
 }
 
+/* The whole-block reader on so many bytes of a stream, with every buffer at its length. */
+static uint32_t read_whole(const uint8_t *from, size_t from_len, uint32_t *report)
+{
+    return chamanzil_read_block(
+        from, from_len, read_block, sizeof read_block, erasures, sizeof erasures, read_main, sizeof read_main, report, CHAMANZIL_BLOCK_REPORT);
+}
+
+/* Sixteen calls of the sector reader on the stream, for the block and its marks: how many words are unknown. */
+static uint32_t read_sectors(void)
+{
+    uint32_t report[CHAMANZIL_SECTOR_REPORT] = {0, 0};
+    uint32_t unknown = 0;
+    size_t k;
+    for (k = 0; k < CHAMANZIL_SECTORS; k++) {
+        const uint8_t *from = stream + k * CHAMANZIL_SECTOR_STREAM;
+        size_t at = k * CHAMANZIL_SECTOR;
+        uint32_t answer = chamanzil_read_sector(
+            from, CHAMANZIL_SECTOR_READ, read_block + at, CHAMANZIL_SECTOR, erasures + at, CHAMANZIL_SECTOR, report, CHAMANZIL_SECTOR_REPORT);
+        expect(answer == CHAMANZIL_DONE, "read_sector");
+        unknown += report[0];
+    }
+    return unknown;
+}
+
+/* How many bytes of the block are marked. A mark is 0 or 1. */
+static size_t marks(void)
+{
+    size_t count = 0;
+    size_t i;
+    for (i = 0; i < sizeof erasures; i++) {
+        expect(erasures[i] <= 1, "a mark of the sector reader");
+        count += erasures[i];
+    }
+    return count;
+}
+
+/* The repairer on the block that was read, by the marks. */
+static uint32_t repair(const uint8_t *by, uint32_t *report)
+{
+    return chamanzil_repair_block(
+        read_block, sizeof read_block, by, CHAMANZIL_BLOCK, read_main, sizeof read_main, report, CHAMANZIL_REPAIR_REPORT);
+}
+
+/* A row of which ten words are lost comes back by their marks. Without marks the columns have to help. */
+static void repair_by_marks(void)
+{
+    static const uint8_t none[CHAMANZIL_BLOCK] = {0};
+    uint32_t report[CHAMANZIL_REPAIR_REPORT] = {0, 0, 0, 0, 0, 0};
+    memcpy(stream, whole, sizeof stream);
+    memset(stream + 372 + 4, 0, 20); /* row 1, after its SYNC Code; ZEROs are no word */
+    expect(read_sectors() == 10 && marks() == 10, "the marks of ten unknown words");
+    expect(erasures[CHAMANZIL_ROW] == 1 && erasures[CHAMANZIL_ROW + 9] == 1, "the places of ten unknown words");
+    expect(repair(erasures, report) == CHAMANZIL_DONE && memcmp(read_main, main_data, sizeof main_data) == 0, "the block by its marks");
+    expect(report[1] == 1 && report[2] == 0 && report[3] == 0, "the row comes back whole");
+    expect(memcmp(read_block, block, sizeof block) == 0, "the block is the one that was made");
+
+    expect(read_sectors() == 10, "the sectors once more");
+    expect(repair(none, report) == CHAMANZIL_DONE && memcmp(read_main, main_data, sizeof main_data) == 0, "the block without marks");
+    expect(report[1] == 0 && report[2] == 1 && report[3] == 10, "the row is past help, and ten columns mend it");
+}
+
+/* Ten wrong bytes in a row of zeros, which are a code row. */
+static void correct_by_marks(void)
+{
+    static const uint8_t zeros[CHAMANZIL_ROW] = {0};
+    uint8_t row[CHAMANZIL_ROW] = {0};
+    uint8_t marked[CHAMANZIL_ROW] = {0};
+    memset(row, 9, 10);
+    expect(chamanzil_correct_row(row, sizeof row, zeros, sizeof zeros) == CHAMANZIL_UNCORRECTABLE && row[0] == 9, "ten wrong bytes without marks");
+    memset(marked, 1, 10);
+    expect(chamanzil_correct_row(row, sizeof row, marked, sizeof marked) == CHAMANZIL_CORRECTED, "ten wrong bytes with marks");
+    expect(memcmp(row, zeros, sizeof row) == 0, "the row comes back");
+    expect(chamanzil_correct_row(row, sizeof row, marked, sizeof marked) == CHAMANZIL_DONE, "a code row with ten marks");
+    marked[10] = 1;
+    expect(chamanzil_correct_row(row, sizeof row, marked, sizeof marked) == CHAMANZIL_UNCORRECTABLE, "a code row with eleven marks");
+    marked[10] = 2;
+    expect(chamanzil_correct_row(row, sizeof row, marked, sizeof marked) == CHAMANZIL_ERASURE, "a mark of 2 in a row");
+    expect(chamanzil_correct_row(row, sizeof row, marked, sizeof marked - 1) == CHAMANZIL_LENGTH, "another length of a row's marks");
+}
+
+/* A mark of 2 in the last place of the block: everything is as it was, the wrong byte in its first row too. */
+static void mark_refused(void)
+{
+    uint32_t report[CHAMANZIL_REPAIR_REPORT] = {7, 7, 7, 7, 7, 7};
+    memcpy(read_block, block, sizeof block);
+    read_block[0] ^= 0x08;
+    memset(erasures, 0, sizeof erasures);
+    erasures[sizeof erasures - 1] = 2;
+    memset(read_main, 165, sizeof read_main);
+    expect(repair(erasures, report) == CHAMANZIL_ERASURE, "a mark of 2");
+    expect((read_block[0] ^ block[0]) == 0x08 && memcmp(read_block + 1, block + 1, sizeof block - 1) == 0, "the block after a mark of 2");
+    expect(read_main[0] == 165 && report[0] == 7 && report[5] == 7, "main data and report after a mark of 2");
+}
+
 /* A refusal leaves everything as it was. */
 static void be_refused(void)
 {
     uint32_t report[CHAMANZIL_BLOCK_REPORT] = {7, 7, 7, 7, 7, 7, 7, 7};
-    uint32_t answer;
     memset(read_main, 165, sizeof read_main);
-    answer = chamanzil_read_block(stream, sizeof stream - 1, read_block, sizeof read_block, read_main, sizeof read_main, report, CHAMANZIL_BLOCK_REPORT);
-    expect(answer == CHAMANZIL_LENGTH && read_main[0] == 165 && report[0] == 7, "another length of stream");
+    memset(erasures, 165, sizeof erasures);
+    expect(read_whole(stream, sizeof stream - 1, report) == CHAMANZIL_LENGTH, "another length of stream");
+    expect(read_main[0] == 165 && erasures[0] == 165 && report[0] == 7, "the buffers after another length of stream");
+    mark_refused();
     expect(chamanzil_encode_block(main_data, sizeof main_data, false, 0, 8, 0, block, sizeof block) == CHAMANZIL_NUMBER, "first number 8");
 }
 
@@ -133,7 +230,7 @@ static void read_run(uint32_t first)
     size_t k;
     for (k = 0; k < 2; k++) {
         const uint8_t *part = run + k * CHAMANZIL_BLOCK_STREAM;
-        uint32_t answer = chamanzil_read_block(part, CHAMANZIL_STREAM, read_block, sizeof read_block, read_main, sizeof read_main, report, CHAMANZIL_BLOCK_REPORT);
+        uint32_t answer = read_whole(part, CHAMANZIL_STREAM, report);
         fill_main(k);
         expect(answer == CHAMANZIL_DONE && report[0] == first + 16 * k, "a block of the run");
         expect(memcmp(read_main, main_data, sizeof main_data) == 0, "the main data of a block of the run");
@@ -145,7 +242,6 @@ static void read_run(uint32_t first)
 int main(void)
 {
     uint32_t report[CHAMANZIL_BLOCK_REPORT] = {0, 0, 0, 0, 0, 0, 0, 0};
-    uint32_t answer;
     size_t i;
 
     fill_main(0);
@@ -161,11 +257,13 @@ int main(void)
     for (i = 500; i < sizeof stream; i += 1000) {
         stream[i] ^= 0x08;
     }
-    answer = chamanzil_read_block(stream, sizeof stream, read_block, sizeof read_block, read_main, sizeof read_main, report, CHAMANZIL_BLOCK_REPORT);
-    expect(answer == CHAMANZIL_DONE, "read_block");
+    expect(read_whole(stream, sizeof stream, report) == CHAMANZIL_DONE, "read_block");
     expect(memcmp(read_main, main_data, sizeof main_data) == 0, "the main data read");
     expect(report[0] == 0x030000, "the first number");
+    expect(marks() == report[5], "the marks of the unknown words");
 
+    repair_by_marks();
+    correct_by_marks();
     be_refused();
     close_by_dsv();
     write_run(0x02FFF0);

@@ -1,7 +1,7 @@
 //! The speed of the proved library beside libfec, one thread, as MB/s of main data and as ratios. `bench/run` builds and runs it.
 //! Nothing is cleared but what a call would find changed: before each call of the repairer the damaged block is copied into the block buffer anew, before
-//! libfec's decoding too, and that copy is not timed. Tables that a call needs are made within it, as for a user. Caches are warm: a figure is the best of 25
-//! rounds of 12 calls, and where two are compared their rounds take turns.
+//! libfec's decoding too, and that copy is not timed. Nor is the list of marked places that libfec takes for marks. Tables that a call needs are made within it, as
+//! for a user. Caches are warm: a figure is the best of 25 rounds of 12 calls, and where two are compared their rounds take turns.
 #![allow(dead_code)]
 #[path = "../../tests/src/gf.rs"]
 mod gf;
@@ -18,7 +18,7 @@ mod timing;
 #[path = "../../tests/src/writing.rs"]
 mod writing;
 
-use peer::Peer;
+use peer::{Peer, Places};
 use random::Random;
 use timing::{beside, rate, seconds};
 use writing::{Record, LAID, SECTOR};
@@ -65,10 +65,10 @@ fn take_sectors(block: &[u8], stream: &mut [u8]) {
     }
 }
 
-fn read_sectors(stream: &[u8], block: &mut [u8]) {
+fn read_sectors(stream: &[u8], block: &mut [u8], erasures: &mut [u8]) {
     let mut tallies = [0; 2];
-    for (s, bytes) in block.chunks_mut(SECTOR).enumerate() {
-        assert_eq!(library::read_sector(&stream[LAID * s..][..LAID + 2], bytes, &mut tallies), 0);
+    for (s, (bytes, marks)) in block.chunks_mut(SECTOR).zip(erasures.chunks_mut(SECTOR)).enumerate() {
+        assert_eq!(library::read_sector(&stream[LAID * s..][..LAID + 2], bytes, marks, &mut tallies), 0);
     }
 }
 
@@ -78,7 +78,9 @@ struct Bench {
     block: Vec<u8>,
     stream: Vec<u8>,
     given: Vec<u8>,
+    erasures_given: Vec<u8>,
     work: Vec<u8>,
+    erasures_read: Vec<u8>,
     out: Vec<u8>,
     laid: Vec<u8>,
     peer: Peer,
@@ -92,7 +94,9 @@ impl Bench {
         write(&block, &mut stream);
         Bench {
             given: block.clone(),
+            erasures_given: vec![0; BLOCK],
             work: vec![0; BLOCK],
+            erasures_read: vec![0; BLOCK],
             out: vec![0; MAIN],
             laid: vec![0; STREAM],
             peer: Peer::new(),
@@ -111,35 +115,52 @@ impl Bench {
 
     fn repair(&mut self) {
         let mut report = [0; 6];
-        assert_eq!(library::repair_block(&mut self.work, &mut self.out, &mut report), 0);
+        assert_eq!(library::repair_block(&mut self.work, &self.erasures_given, &mut self.out, &mut report), 0);
     }
 
     fn read(&mut self, stream: &[u8]) {
         let mut report = [0; 8];
-        assert_eq!(library::read_block(stream, &mut self.work, &mut self.out, &mut report), 0);
+        assert_eq!(library::read_block(stream, &mut self.work, &mut self.erasures_read, &mut self.out, &mut report), 0);
     }
 
-    /// The repair of `given`, ours and libfec's, and whether both give the main rows and columns back.
+    /// The repair of `given` with its marks, ours and libfec's, and whether both give the main rows and columns back.
     fn repairs(&mut self) -> [f64; 2] {
         let anew = |b: &mut Bench| b.work.copy_from_slice(&b.given);
-        let times = beside(self, anew, Bench::repair, |b| b.peer.decode(&mut b.work));
+        let places = Places::of(&self.erasures_given);
+        let times = beside(self, anew, Bench::repair, |b| b.peer.decode(&mut b.work, &places));
         let data = |block: &[u8]| -> Vec<u8> { block.chunks(182).flat_map(|r| r[..172].to_vec()).collect() };
         assert!(self.out == self.main, "the repair differs");
         assert!(data(&self.work) == data(&self.block), "libfec's repair differs");
         times
     }
 
+    /// The block as it was made, without marks.
+    fn give_anew(&mut self) {
+        self.given.copy_from_slice(&self.block);
+        self.erasures_given.fill(0);
+    }
+
     /// `count` wrong bytes in each row.
     fn damage_rows(&mut self, random: &mut Random, count: usize) {
-        self.given.copy_from_slice(&self.block);
+        self.give_anew();
         for row in self.given.chunks_mut(182) {
             random.places(182, count).into_iter().for_each(|p| row[p] ^= 1 + random.below(255) as u8);
         }
     }
 
+    /// `count` unknown words in each row: zeros, and marked.
+    fn erase_in_rows(&mut self, random: &mut Random, count: usize) {
+        self.give_anew();
+        for (row, marks) in self.given.chunks_mut(182).zip(self.erasures_given.chunks_mut(182)) {
+            for at in random.places(182, count) {
+                (row[at], marks[at]) = (0, 1);
+            }
+        }
+    }
+
     /// Eight rows of random bytes.
     fn damage_whole_rows(&mut self, random: &mut Random) {
-        self.given.copy_from_slice(&self.block);
+        self.give_anew();
         for q in random.places(208, 8) {
             self.given[182 * q..][..182].copy_from_slice(&random.bytes(182));
         }
@@ -169,7 +190,7 @@ fn table(b: &mut Bench, random: &mut Random) {
     let after = b.first_block();
     let second_block = |b: &mut Bench| assert_eq!(write_block(&b.main, 1, after, &mut b.laid).sectors, 32);
     line("block of a run: maker and sixteen sectors", seconds(b, second_block), None);
-    line("sector reader, clean stream", seconds(b, |b| read_sectors(&b.stream, &mut b.work)), None);
+    line("sector reader, clean stream", seconds(b, |b| read_sectors(&b.stream, &mut b.work, &mut b.erasures_read)), None);
     let [ours, theirs] = b.repairs();
     line("repair, clean block", ours, Some(("decoding", theirs)));
     for count in 1..6 {
@@ -180,6 +201,9 @@ fn table(b: &mut Bench, random: &mut Random) {
     b.damage_whole_rows(random);
     let [ours, theirs] = b.repairs();
     line("repair, 8 dead rows", ours, Some(("decoding", theirs)));
+    b.erase_in_rows(random, 10);
+    let [ours, theirs] = b.repairs();
+    line("repair, 10 unknown in each row, with marks", ours, Some(("decoding", theirs)));
     let stream = b.stream.clone();
     line("whole chain, clean stream", seconds(b, |b| b.read(&stream)), None);
     assert!(b.out == b.main);
@@ -192,7 +216,7 @@ fn growth(b: &mut Bench, random: &mut Random) {
     println!("|---|---|---|");
     for n in [1, 2, 4, 8, 16] {
         let writer = seconds(b, |b| take_sectors(&b.block[..SECTOR * n], &mut b.laid));
-        let reader = seconds(b, |b| read_sectors(&b.stream, &mut b.work[..SECTOR * n]));
+        let reader = seconds(b, |b| read_sectors(&b.stream, &mut b.work[..SECTOR * n], &mut b.erasures_read[..SECTOR * n]));
         println!("| {n} | {:.0} | {:.0} |", 1e6 * writer, 1e6 * reader);
     }
     println!();

@@ -16,6 +16,23 @@ fn recorded(i: usize) -> usize {
     }
 }
 
+/// The marked places of each row as libfec takes them, and how many: at most ten, which is the length of its list, since it writes the places changed there.
+pub struct Places(Vec<([i32; 10], i32)>);
+
+impl Places {
+    pub fn of(erasures: &[u8]) -> Places {
+        let row = |marks: &[u8]| {
+            let (mut places, mut count) = ([0; 10], 0);
+            for (at, _) in (0..).zip(marks).filter(|(_, mark)| **mark == 1) {
+                places[count] = at;
+                count += 1;
+            }
+            (places, count as i32)
+        };
+        Places(erasures.chunks(182).map(row).collect())
+    }
+}
+
 /// The two codes: a column's 192 bytes with 16 more, a row's 172 with 10.
 pub struct Peer {
     column: *mut c_void,
@@ -46,11 +63,12 @@ impl Peer {
         }
     }
 
-    /// All rows, then columns 0 to 171, as the repairer takes them. No checks of frames and no unscrambling.
-    pub fn decode(&self, block: &mut [u8]) {
+    /// All rows with their marks, then columns 0 to 171, as the repairer takes them. No checks of frames and no unscrambling.
+    pub fn decode(&self, block: &mut [u8], places: &Places) {
         let none = std::ptr::null_mut();
-        for row in block.chunks_mut(182) {
-            unsafe { decode_rs_char(self.row, row.as_mut_ptr(), none, 0) };
+        for (row, &(mut marked, count)) in block.chunks_mut(182).zip(&places.0) {
+            let known = if count == 0 { none } else { marked.as_mut_ptr() };
+            unsafe { decode_rs_char(self.row, row.as_mut_ptr(), known, count) };
         }
         let mut column = [0u8; 208];
         for j in 0..172 {

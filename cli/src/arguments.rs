@@ -48,7 +48,10 @@ pub struct Format {
 
 /// A stream back to the image, with repair
 ///
-/// A block that is refused ends it, and nothing is handed out. The summary's last line has the sums of the bench sheet's counts over all blocks.
+/// Words that are in no table are marked, and the rows are repaired by their marks. A block that is refused with 4, 5 or 6 is read once more without marks, since an
+/// unknown word is read as 0 and can be right; where that passes it is handed out, and a line says so. A block that is refused both ways ends it, with the number of
+/// the reading with marks, and nothing is handed out. The summary's last line has the sums of the bench sheet's counts over all blocks, and at its end `unmarked N`
+/// where N blocks are read without marks.
 #[derive(clap::Args)]
 #[command(after_help = "Example:\n  chamanzil recover disc.stream -o disc.img --length 65536")]
 pub struct Recover {
@@ -60,15 +63,20 @@ pub struct Recover {
     /// Bytes of the image, without the zero sectors that filled the last block up
     #[arg(long, value_name = "N")]
     pub length: Option<u64>,
-    /// Where the bench sheet's line of each block goes
+    /// Where the bench sheet's line of each block goes: of the reading that is handed out, be it with marks or without
     #[arg(long, value_name = "FILE")]
     pub sheet: Option<PathBuf>,
     /// Put 32,768 zero bytes where a block is refused, and go on; the exit status is 1 all the same
     #[arg(long)]
     pub keep_going: bool,
+    /// Make no second try without marks
+    #[arg(long)]
+    pub strict: bool,
 }
 
 /// The bench sheet's line of each block
+///
+/// Each block is read with the marks of its unknown words, and not a second time without: a block that `recover` reads without marks is refused here.
 #[derive(clap::Args)]
 #[command(after_help = "Example:\n  chamanzil sheet disc.stream")]
 pub struct Sheet {
@@ -78,8 +86,9 @@ pub struct Sheet {
 
 /// A picture of one block: what became of each byte
 ///
-/// 208 rows by 182 places in recording order: read right, unknown, corrected by its row, by its column, or wrong still; rows and columns past help at the side. A
-/// block that is refused with 4, 5 or 6 is drawn too, with exit status 1.
+/// 208 rows by 182 places in recording order: read right, corrected by its row, by its column, or wrong still, with a black middle where the byte is marked, since
+/// its word is in no table; rows and columns past help at the side. The rows are repaired by their marks. A block that is refused with 4, 5 or 6 is drawn too, with
+/// exit status 1.
 #[derive(clap::Args)]
 #[command(after_help = "Example:\n  chamanzil map disc.stream --block 1 -o map.html")]
 pub struct Map {
@@ -91,7 +100,7 @@ pub struct Map {
     /// Where the picture goes: NAME.png or NAME.html
     #[arg(short, long, value_name = "FILE")]
     pub output: PathBuf,
-    /// A picture, or a page that tells row, place, byte and Code Word under the pointer; where it is not given, by the name's ending
+    /// A picture, or a page that tells row, place, byte, Code Word and marks under the pointer; where it is not given, by the name's ending
     #[arg(long = "as", value_name = "KIND")]
     pub kind: Option<Kind>,
 }

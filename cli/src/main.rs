@@ -11,6 +11,7 @@ mod progress;
 mod recover;
 mod sheet;
 mod signals;
+mod unmarked;
 
 use std::io::Write;
 use std::process::ExitCode;

@@ -1,14 +1,52 @@
 //! `recover`: a stream back to its image.
-use chamanzil::{BlockRead, Tally, BLOCK_STREAM, MAIN};
+use chamanzil::{BlockRead, Refusal, Tally, BLOCK_STREAM, MAIN};
 
 use crate::arguments::Recover;
 use crate::failure::{Failure, Refused};
 use crate::input::Input;
 use crate::output::{self, Output};
-use crate::pieces::{in_order, of_stream};
+use crate::pieces::{in_order, of_stream, Piece};
 use crate::progress::Progress;
 use crate::sheet::{line, read, Answer};
-use crate::{say, Ending};
+use crate::{say, unmarked, Ending};
+
+/// A block as it is handed out.
+struct Recovered {
+    answer: Answer,
+    /// What the reading with marks was refused with, where this is the one without.
+    with_marks: Option<Refusal>,
+}
+
+/// The block read with its marks, and where a frame of it is refused once more without, unless that is forbidden. Where both are refused the first counts.
+fn recovered(piece: &Piece, is_strict: bool) -> Recovered {
+    let answer = read(piece);
+    let with_marks = answer.read.as_ref().err().copied();
+    let again = piece.bytes[..].try_into().ok();
+    let again = again.filter(|_| with_marks.is_some() && !is_strict);
+    match again.map(unmarked::read) {
+        Some(Ok(read)) => Recovered {
+            answer: Answer {
+                read: Ok(read),
+                ..answer
+            },
+            with_marks,
+        },
+        _ => Recovered {
+            answer,
+            with_marks: None,
+        },
+    }
+}
+
+impl Recovered {
+    /// That it is read without marks, if it is.
+    fn unmarked(&self) -> Option<String> {
+        let (block, refused) = (self.answer.block, line(&Err(self.with_marks?)));
+        Some(format!(
+            "block {block} is read without marks: {refused} with them"
+        ))
+    }
+}
 
 /// The sums of the bench sheet's counts over the blocks that are read, and where their numbers should have led.
 #[derive(Default)]
@@ -19,6 +57,8 @@ struct Summary {
     columns: Sum,
     unknown: u64,
     sync: u64,
+    /// Blocks read without marks.
+    unmarked: u64,
     /// The number that follows for the next block, once one is read.
     next: Option<u32>,
 }
@@ -38,14 +78,15 @@ impl Sum {
 
 impl Summary {
     /// Counts a block in; a number that does not follow from the blocks before is told.
-    fn add(&mut self, answer: &Answer) -> Option<String> {
+    fn add(&mut self, block: &Recovered) -> Option<String> {
         self.blocks += 1;
         let due = self.next;
         self.next = due.map(|number| number.wrapping_add(16));
-        let Ok(read) = &answer.read else {
+        let Ok(read) = &block.answer.read else {
             self.refused += 1;
             return None;
         };
+        self.unmarked += u64::from(block.with_marks.is_some());
         self.rows.add(read.rows);
         self.columns.add(read.columns);
         self.unknown += u64::from(read.unknown);
@@ -54,10 +95,11 @@ impl Summary {
         let due = due.filter(|number| *number != read.first)?;
         Some(format!(
             "block {} has number {:06X}, where {due:06X} follows",
-            answer.block, read.first
+            block.answer.block, read.first
         ))
     }
 
+    /// The blocks read without marks come last, and only where there are any, so that whoever reads the counts before them finds each in its place.
     fn line(&self) -> String {
         let Summary {
             blocks,
@@ -66,12 +108,17 @@ impl Summary {
             columns,
             unknown,
             sync,
+            unmarked,
             ..
         } = self;
-        format!(
+        let counts = format!(
             "blocks {blocks} refused {refused} rows {} {} columns {} {} unknown {unknown} sync {sync}",
             rows.changed, rows.past_help, columns.changed, columns.past_help
-        )
+        );
+        match unmarked {
+            0 => counts,
+            _ => format!("{counts} unmarked {unmarked}"),
+        }
     }
 }
 
@@ -138,21 +185,23 @@ pub fn run(chosen: &Recover) -> Result<Ending, Failure> {
     let mut outputs = Outputs::create(chosen)?;
     let progress = Progress::over(stream.length);
     let mut summary = Summary::default();
+    let is_strict = chosen.strict;
     in_order(
         of_stream(stream),
-        |piece| read(&piece),
-        |answer| {
+        move |piece| recovered(&piece, is_strict),
+        |block| {
             progress.passed(BLOCK_STREAM);
-            if let Some(refused) = answer.refused() {
+            if let Some(refused) = block.answer.refused() {
                 if !chosen.keep_going {
                     return Err(refused.into());
                 }
                 progress.say(refused);
             }
-            if let Some(gap) = summary.add(&answer) {
-                progress.say(gap);
-            }
-            outputs.write(&answer)
+            let told = [block.unmarked(), summary.add(&block)];
+            told.into_iter()
+                .flatten()
+                .for_each(|line| progress.say(line));
+            outputs.write(&block.answer)
         },
     )?;
     outputs.finish(chosen.length, summary.blocks)?;

@@ -110,6 +110,10 @@ fn what_is_not_known() {
         "check stream --block 0",
         "completions klingon",
         "recover stream -o image2 --skip",
+        "recover stream -o image2 --strict=1",
+        "sheet stream --strict",
+        "map stream -o map.png --strict",
+        "check stream --strict",
     ] {
         wrong_line(line);
     }

@@ -106,7 +106,13 @@ fn the_help_names_each_option() {
         ("format", &["--output", "--first", "--info"][..]),
         (
             "recover",
-            &["--output", "--length", "--sheet", "--keep-going"],
+            &[
+                "--output",
+                "--length",
+                "--sheet",
+                "--keep-going",
+                "--strict",
+            ],
         ),
         ("map", &["--output", "--block", "--as"]),
     ] {
@@ -114,6 +120,22 @@ fn the_help_names_each_option() {
         for option in options.iter().chain(&["-o, "][..]) {
             assert!(help.contains(option), "{command} {option}: {help}");
         }
+    }
+}
+
+/// What is said of marks, where they decide what is handed out or drawn.
+#[test]
+fn the_help_tells_of_marks() {
+    for (command, words) in [
+        ("recover", "read once more without marks"),
+        ("recover", "be it with marks or without"),
+        ("sheet", "not a second time without"),
+        ("map", "repaired by their marks"),
+    ] {
+        // clap breaks lines where it likes
+        let help = help(command);
+        let text = help.split_whitespace().collect::<Vec<_>>().join(" ");
+        assert!(text.contains(words), "{command} {words}: {help}");
     }
 }
 
@@ -125,7 +147,7 @@ fn completions_mention_each_command() {
         for command in COMMANDS {
             assert!(ended.text().contains(command), "{shell}: {command}");
         }
-        for option in ["keep-going", "first", "sheet"] {
+        for option in ["keep-going", "strict", "first", "sheet"] {
             assert!(ended.text().contains(option), "{shell}: {option}");
         }
         assert_eq!(folder.names().len(), 0);

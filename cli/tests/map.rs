@@ -1,13 +1,13 @@
-//! The map's picture against classes that are worked out here from the stream, its counts and marks, and the page that holds the same picture.
+//! The map's picture against classes and marks that are worked out here from the stream, its counts and strips, and the page that holds the same picture.
 mod common;
 
-use chamanzil::MAIN;
+use chamanzil::{BLOCK, MAIN, ROW, ROW_DATA};
 use common::cells::{Cells, Class};
-use common::damage::{half_of, overwrite_rows, scratch, set_half, some_rows, spot_rows, With};
+use common::damage::{half_of, overwrite_rows, scratch, set_half, some_rows, spot_rows};
+use common::damage::{lose_zeros, With, NO_WORD};
 use common::picture::Picture;
-use common::streams::{
-    block_part, edited, frame_place, image, run_of, set_id, Numbers, FRAME_MAIN,
-};
+use common::streams::{block_part, edited, frame_place, image, run_of, scrambled_to_zeros};
+use common::streams::{set_id, Numbers, FRAME_MAIN};
 use common::{ended, in_repository, Ended, Folder, CHAMANZIL};
 use std::fs;
 
@@ -37,7 +37,7 @@ fn says(ended: &Ended, cells: &Cells, block: usize) {
     assert_eq!(ended.lines(), due);
 }
 
-/// Draws a block and holds every cell, mark and count to what the stream gives.
+/// Draws a block and holds every cell, mark, strip and count to what the stream gives.
 fn drawn(stream: &[u8], block: usize) -> Cells {
     let folder = Folder::with(&[("stream", stream)]);
     let cells = Cells::new(block_part(stream, block));
@@ -67,16 +67,34 @@ fn has(cells: &Cells, classes: &[Class]) {
 fn a_clean_block() {
     has(&drawn(&vector("damaged/clean.stream"), 0), &[Class::Right]);
     let counts = Cells::new(block_part(&vector("damaged/clean.stream"), 0)).counts();
-    assert_eq!(counts, "right 37856 unknown 0 row 0 column 0 wrong 0");
+    assert_eq!(counts, "right 37856 row 0 column 0 wrong 0 marked 0");
+}
+
+/// What became of the marked bytes.
+fn marked_classes(cells: &Cells) -> Vec<Class> {
+    let marked = (0..BLOCK).filter(|i| cells.is_marked(*i));
+    marked.map(|i| cells.classes[i]).collect()
 }
 
 #[test]
 fn a_lightly_damaged_block() {
     let cells = drawn(&vector("damaged/light5.stream"), 0);
-    has(&cells, &[Class::Right, Class::Unknown, Class::Row]);
+    has(&cells, &[Class::Right, Class::Row]);
+    assert_eq!(cells.marks(), 591);
+    let marked = marked_classes(&cells);
+    assert!(marked.contains(&Class::Row) && !marked.contains(&Class::Column));
 }
 
-/// In eight dead rows the columns put everything right but the rows' own parity, which no column holds.
+/// Ten marks in each row, all put right by their rows, but for bytes that are 0 anyway.
+#[test]
+fn ten_marks_in_each_row() {
+    let cells = drawn(&vector("damaged/tenunknown.stream"), 0);
+    has(&cells, &[Class::Right, Class::Row]);
+    assert!((0..208).all(|row| cells.marks_of(row) == 10));
+    assert!(!cells.is_row_past_help.contains(&true));
+}
+
+/// In eight dead rows the columns put everything right but the rows' own parity, which no column holds. A mark has each of the classes.
 #[test]
 fn eight_dead_rows() {
     let cells = drawn(&vector("damaged/heavy8.stream"), 0);
@@ -85,9 +103,26 @@ fn eight_dead_rows() {
         cells.is_row_past_help.iter().filter(|past| **past).count(),
         8
     );
-    let is_parity = |i: usize| i % chamanzil::ROW >= chamanzil::ROW_DATA;
+    let is_parity = |i: usize| i % ROW >= ROW_DATA;
     let wrong = |i: &usize| cells.classes[*i] == Class::Wrong;
-    assert!((0..chamanzil::BLOCK).filter(wrong).all(is_parity));
+    assert!((0..BLOCK).filter(wrong).all(is_parity));
+    let marked = marked_classes(&cells);
+    assert!(Class::ALL.iter().all(|class| marked.contains(class)));
+}
+
+/// A block that `recover` reads without marks is drawn as it is refused with them.
+#[test]
+fn a_block_that_is_refused_by_its_marks() {
+    let main = [image(133, MAIN), scrambled_to_zeros(0x03_0010)].concat();
+    let mut stream = run_of(&main, 0x03_0000, 0);
+    lose_zeros(&mut stream, 1, 7);
+    let cells = drawn(&stream, 1);
+    assert_eq!(cells.sheet, "refused 6 frame 7");
+    let rows = (0..208).filter(|row| cells.is_row_past_help[*row]);
+    assert!(rows.clone().all(|row| cells.marks_of(row) > 10));
+    assert_eq!(rows.count(), 9);
+    let columns = (0..ROW_DATA).filter(|place| cells.is_column_past_help[*place]);
+    assert!(columns.eq([20, 60]));
 }
 
 #[test]
@@ -153,12 +188,13 @@ fn random_damage() {
 #[test]
 fn single_words() {
     let mut stream = run_of(&image(132, MAIN), 0x03_0000, 0);
-    set_half(&mut stream, half_of(54, 17), 0xFFFF);
+    set_half(&mut stream, half_of(54, 17), NO_WORD);
     let word = 0b0010_0000_0000_1001; // byte 0 in State 1
     set_half(&mut stream, half_of(120, 181), word);
     let cells = drawn(&stream, 0);
-    assert_eq!(cells.classes[54 * chamanzil::ROW + 17], Class::Unknown);
-    assert_eq!(cells.classes[120 * chamanzil::ROW + 181], Class::Row);
+    let [lost, other] = [54 * ROW + 17, 120 * ROW + 181];
+    assert_eq!([lost, other].map(|i| cells.classes[i]), [Class::Row; 2]);
+    assert_eq!([lost, other].map(|i| cells.is_marked(i)), [true, false]);
 }
 
 #[test]

@@ -105,30 +105,33 @@ fn title_and_counts() {
     }
 }
 
-/// What is said of an unknown word. Where the block is refused nobody knows that a byte was put right.
-fn due_of_unknown(cells: &Cells, i: usize) -> &'static str {
-    match (cells.is_by_column(i), cells.is_by_row(i), cells.is_refused) {
-        (true, _, false) => "put right by its column",
-        (false, true, false) => "put right by its row",
-        (false, false, false) => "its byte is 0",
-        (true, _, true) => "by its column",
-        (false, true, true) => "by its row",
-        (false, false, true) => "taken for 0",
+/// What is said of a marked byte. Where the block is refused nobody knows that it was put right.
+fn due_of_marked(cells: &Cells, i: usize) -> &'static str {
+    match (cells.classes[i], cells.is_refused) {
+        (Class::Column, false) => "put right by its column",
+        (Class::Row, false) => "put right by its row",
+        (Class::Right, false) => "its byte is 0",
+        (Class::Column, true) => "by its column",
+        (Class::Row, true) => "by its row",
+        (Class::Right, true) => "taken for 0",
+        (Class::Wrong, _) => "wrong still",
     }
 }
 
-/// What stands under the pointer at a cell, up to what is said of a byte that is wrong still.
+/// What stands under the pointer at a cell.
 fn due_under(cells: &Cells, i: usize) -> String {
     let (row, place, byte, word) = (i / ROW, i % ROW, cells.repaired[i], cells.words[i]);
     let read_as = || format!("(read as {:02X})", cells.read_as(i));
     let said = match cells.classes[i] {
+        _ if cells.is_marked(i) => format!("marked ({})", due_of_marked(cells, i)),
+        Class::Right if cells.is_refused => "as read".to_string(),
         Class::Right => "right".to_string(),
         Class::Row => format!("by its row {}", read_as()),
         Class::Column => format!("by its column {}", read_as()),
-        Class::Unknown => format!("unknown ({})", due_of_unknown(cells, i)),
         Class::Wrong => "wrong still".to_string(),
     };
-    format!("row {row}, place {place}: byte {byte:02X}, Code Word {word:016b}, {said}")
+    let marks = cells.marks_of(row);
+    format!("row {row}, place {place}: byte {byte:02X}, Code Word {word:016b}, {said}; marks of the row: {marks}")
 }
 
 /// Moves the pointer over cells, and collects what is said of each.
@@ -163,11 +166,15 @@ fn hovered(mapped: &Mapped, cells: &[usize]) -> Vec<String> {
         .collect()
 }
 
-/// Some cells of each class, the corners, and the cells beside an edge.
+/// Some cells of each class, marked and not, the corners, and the cells beside an edge.
 fn cells_to_hover(cells: &Cells) -> Vec<usize> {
     let mut chosen = vec![0, ROW - 1, ROW, 207 * ROW, 208 * ROW - 1];
-    for class in Class::ALL {
-        let of_class = (0..cells.classes.len()).filter(|i| cells.classes[*i] == class);
+    for (class, is_marked) in Class::ALL
+        .map(|class| [(class, true), (class, false)])
+        .concat()
+    {
+        let is_one = |i: &usize| (cells.classes[*i], cells.is_marked(*i)) == (class, is_marked);
+        let of_class = (0..cells.classes.len()).filter(is_one);
         chosen.extend(of_class.step_by(37).take(4));
     }
     chosen
@@ -182,20 +189,15 @@ fn what_is_under_the_pointer() {
         "damaged/heavy8.stream",
         "damaged/light5.stream",
         "damaged/heavy9.stream",
+        "damaged/tenunknown.stream",
+        "damaged/nine.stream",
     ] {
         let mapped = Mapped::new(vector);
         let cells = cells_to_hover(&mapped.cells);
         let said = hovered(&mapped, &cells);
         assert_eq!(said.len(), cells.len());
         for (i, said) in cells.into_iter().zip(said) {
-            let due = due_under(&mapped.cells, i);
-            // what more is said of a wrong byte is left open
-            let said = if mapped.cells.classes[i] == Class::Wrong {
-                &said[..due.len().min(said.len())]
-            } else {
-                &said[..]
-            };
-            assert_eq!(said, due, "{vector}");
+            assert_eq!(said, due_under(&mapped.cells, i), "{vector}");
         }
     }
 }

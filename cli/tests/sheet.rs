@@ -3,8 +3,8 @@ mod common;
 
 use chamanzil::{BLOCK_STREAM, MAIN};
 use common::cells::sheet_line;
-use common::damage::{overwrite_rows, scratch, some_rows, spot_rows, With};
-use common::streams::{block_part, image, run_of, Numbers};
+use common::damage::{lose_zeros, overwrite_rows, scratch, some_rows, spot_rows, With};
+use common::streams::{block_part, image, run_of, scrambled_to_zeros, Numbers};
 use common::{fed, in_repository, Folder};
 use std::fs;
 
@@ -41,7 +41,7 @@ fn sheet_is(stream: &[u8], due: &[String]) {
 #[test]
 fn vectors_of_damaged_blocks() {
     let table = table("damaged");
-    assert_eq!(table.len(), 8);
+    assert_eq!(table.len(), 12);
     for line in table {
         let [name, due] = &line[..] else {
             panic!("{line:?}")
@@ -65,6 +65,16 @@ fn vectors_of_runs() {
         assert_eq!(places, ["0", "1", "2"]);
         sheet_is(&vector("run", name), &due);
     }
+}
+
+/// The sheet passes the sector reader's marks, and does not try without: what `recover` reads without them is refused here.
+#[test]
+fn there_is_no_second_try() {
+    let mut stream = run_of(&scrambled_to_zeros(0x03_0000), 0x03_0000, 0);
+    lose_zeros(&mut stream, 0, 3);
+    sheet_is(&stream, &["refused 6 frame 3".to_string()]);
+    let folder = Folder::with(&[("stream", &stream)]);
+    folder.run("recover stream -o image").done();
 }
 
 /// A run with every kind of damage: none, light, as much as a block stands, a row more or less, and everything lost.

@@ -14,6 +14,9 @@
 //! # Ok::<(), chamanzil::Refusal>(())
 //! ```
 //!
+//! What the sector reader knows goes on to the repair: it marks each byte whose Code Word is in no table (`erasures`: 1 for such a byte, 0 for any other). With f
+//! marked bytes a row is repaired while 2e + f is at most 10, where e counts its wrong bytes without a mark: ten marked bytes come back, and without marks five.
+//!
 //! Blocks that follow on are a run, which a [`Writer`] writes: 77,376 bytes a block, and the closing code after the last. Block k is read from the 77,380 bytes at
 //! 77,376 k: its sectors and the four bytes after them. Sector by sector, [`Writer::trial`] tells the DSV after a sector before it is written, and hands out the
 //! [`Trial`] that takes it.
@@ -128,6 +131,8 @@ pub fn format_block(main: &[u8; MAIN], first: u32, info: u8) -> Result<Box<[u8; 
 pub struct SectorRead {
     /// The bytes of the sector, 0 for an unknown word.
     pub bytes: Box<[u8; SECTOR]>,
+    /// Their marks, 1 for an unknown word and 0 for any other.
+    pub erasures: Box<[u8; SECTOR]>,
     /// Words that are in no table.
     pub unknown: u32,
     /// SYNC places that hold none of the codes due there.
@@ -138,20 +143,32 @@ pub struct SectorRead {
 ///
 /// ```
 /// use chamanzil::{encode_block, format_block, read_sector, MAIN, SECTOR, SECTOR_READ};
-/// let stream = format_block(&[0; MAIN], 0, 0)?;
+/// let mut stream = format_block(&[0; MAIN], 0, 0)?;
 /// let read = read_sector(stream[..SECTOR_READ].try_into().unwrap());
 /// assert_eq!(read.bytes[..], encode_block(&[0; MAIN], None, 0, 0)?[..SECTOR]);
-/// assert_eq!((read.unknown, read.sync), (0, 0));
+/// assert_eq!((*read.erasures, read.unknown, read.sync), ([0; SECTOR], 0, 0));
+///
+/// stream[4..24].fill(0); // the first ten words, after the SYNC Code; ZEROs are no word
+/// let read = read_sector(stream[..SECTOR_READ].try_into().unwrap());
+/// assert_eq!((&read.bytes[..10], &read.erasures[..11]), (&[0; 10][..], &[1, 1, 1, 1, 1, 1, 1, 1, 1, 1, 0][..]));
+/// assert_eq!(read.unknown, 10);
 /// # Ok::<(), chamanzil::Refusal>(())
 /// ```
 #[must_use]
 pub fn read_sector(stream: &[u8; SECTOR_READ]) -> SectorRead {
     let mut bytes = room();
+    let mut erasures = room();
     let mut report = [0; SECTOR_REPORT];
-    words::stated(slices::read_sector(stream, &mut bytes[..], &mut report));
+    words::stated(slices::read_sector(
+        stream,
+        &mut bytes[..],
+        &mut erasures[..],
+        &mut report,
+    ));
     let [unknown, sync] = report;
     SectorRead {
         bytes,
+        erasures,
         unknown,
         sync,
     }
@@ -179,24 +196,37 @@ pub struct Repaired {
     pub columns: Tally,
 }
 
-/// The block repairer. `block` is repaired in place, also where a frame is refused.
+/// The block repairer. `block` is repaired in place, also where a frame is refused. `erasures` are its marks, as the sector reader gives them, or zeros.
 ///
 /// ```
-/// use chamanzil::{encode_block, repair_block, MAIN};
-/// let mut block = encode_block(&[1; MAIN], None, 16, 0)?;
-/// block[..5].fill(255);
-/// let repaired = repair_block(&mut block)?;
-/// assert_eq!(*repaired.main, [1; MAIN]);
-/// assert_eq!((repaired.first, repaired.rows.changed), (16, 1));
-/// # Ok::<(), chamanzil::Refusal>(())
+/// use chamanzil::{encode_block, repair_block, Refusal, Tally, BLOCK, MAIN};
+/// let made = encode_block(&[1; MAIN], None, 16, 0)?;
+/// let (mut block, mut erasures) = (made.clone(), [0; BLOCK]);
+/// block[..10].fill(255);
+/// erasures[..10].fill(1);
+/// let repaired = repair_block(&mut block, &erasures)?;
+/// assert_eq!((*repaired.main, repaired.first), ([1; MAIN], 16));
+/// assert_eq!((repaired.rows, repaired.columns), (Tally { changed: 1, past_help: 0 }, Tally::default()));
+/// assert_eq!(block, made);
+///
+/// block[..10].fill(255); // without marks the row is past help, and the columns mend it
+/// let repaired = repair_block(&mut block, &[0; BLOCK])?;
+/// assert_eq!((repaired.rows.past_help, repaired.columns.changed), (1, 10));
+///
+/// erasures[BLOCK - 1] = 2;
+/// assert_eq!(repair_block(&mut block, &erasures), Err(Refusal::Erasure));
+/// # Ok::<(), Refusal>(())
 /// ```
+///
+/// A block that is refused with its marks can be one that is read without, since a row of more than ten unknown words may be nearly right all the same. Who wants
+/// such a block tries again with zeros, on the block as it was read; EDC judges both.
 ///
 /// # Errors
-/// 4, 5 or 6, with the first frame that fails.
-pub fn repair_block(block: &mut [u8; BLOCK]) -> Result<Repaired, Refusal> {
+/// 11, with `block` as it was; 4, 5 or 6, with the first frame that fails.
+pub fn repair_block(block: &mut [u8; BLOCK], erasures: &[u8; BLOCK]) -> Result<Repaired, Refusal> {
     let mut main = room();
     let mut report = [0; REPAIR_REPORT];
-    slices::repair_block(block, &mut main[..], &mut report)?;
+    slices::repair_block(block, erasures, &mut main[..], &mut report)?;
     let [first, changed, past_help, columns_changed, columns_past_help, _] = report;
     Ok(Repaired {
         main,
@@ -224,6 +254,8 @@ pub struct BlockRead {
     pub unknown: u32,
     /// SYNC places that hold none of the codes due there, of all sectors.
     pub sync: u32,
+    /// The sectors' marks, 1 for an unknown word and 0 for any other.
+    pub erasures: Box<[u8; BLOCK]>,
 }
 
 impl fmt::Display for BlockRead {
@@ -242,14 +274,19 @@ impl fmt::Display for BlockRead {
     }
 }
 
-/// The whole-block reader: sixteen sectors, then the repairer. The four bytes after the sectors, by which the last word is judged, are the closing code or the next
-/// block's SYNC Code.
+/// The whole-block reader: sixteen sectors, then the repairer with their marks. The four bytes after the sectors, by which the last word is judged, are the closing
+/// code or the next block's SYNC Code.
 ///
 /// ```
 /// use chamanzil::{format_block, read_block, MAIN};
-/// let stream = format_block(&[0; MAIN], 0x03_0000, 0)?;
+/// let mut stream = format_block(&[0; MAIN], 0x03_0000, 0)?;
 /// let read = read_block(&stream)?;
 /// assert_eq!(read.to_string(), "block 030000 rows 0 0 columns 0 0 unknown 0 sync 0");
+///
+/// stream[376..396].fill(0); // ten words of row 1, which comes back from the row repair by their marks
+/// let read = read_block(&stream)?;
+/// assert_eq!(read.to_string(), "block 030000 rows 1 0 columns 0 0 unknown 10 sync 0");
+/// assert_eq!((*read.main, &read.erasures[182..192]), ([0; MAIN], &[1; 10][..]));
 /// # Ok::<(), chamanzil::Refusal>(())
 /// ```
 ///
@@ -257,9 +294,16 @@ impl fmt::Display for BlockRead {
 /// 4, 5 or 6, with the first frame that fails.
 pub fn read_block(stream: &[u8; STREAM]) -> Result<BlockRead, Refusal> {
     let mut block = room::<BLOCK>();
+    let mut erasures = room();
     let mut main = room();
     let mut report = [0; BLOCK_REPORT];
-    slices::read_block(stream, &mut block[..], &mut main[..], &mut report)?;
+    slices::read_block(
+        stream,
+        &mut block[..],
+        &mut erasures[..],
+        &mut main[..],
+        &mut report,
+    )?;
     let [first, changed, past_help, columns_changed, columns_past_help, unknown, sync, _] = report;
     Ok(BlockRead {
         main,
@@ -271,5 +315,6 @@ pub fn read_block(stream: &[u8; STREAM]) -> Result<BlockRead, Refusal> {
         },
         unknown,
         sync,
+        erasures,
     })
 }

@@ -23,7 +23,12 @@ extern "C" {
         out: *mut u8,
         out_len: usize,
     ) -> u32;
-    pub fn chamanzil_correct_row(row: *mut u8, row_len: usize) -> u32;
+    pub fn chamanzil_correct_row(
+        row: *mut u8,
+        row_len: usize,
+        erasures: *const u8,
+        erasures_len: usize,
+    ) -> u32;
     pub fn chamanzil_correct_column(column: *mut u8, column_len: usize) -> u32;
     pub fn chamanzil_read_word(word: u16, following: u16) -> u32;
     pub fn chamanzil_zero_runs_hold(stream: *const u8, stream_len: usize) -> u32;
@@ -85,12 +90,16 @@ extern "C" {
         stream_len: usize,
         out: *mut u8,
         out_len: usize,
+        erasures: *mut u8,
+        erasures_len: usize,
         report: *mut u32,
         report_len: usize,
     ) -> u32;
     pub fn chamanzil_repair_block(
         block: *mut u8,
         block_len: usize,
+        erasures: *const u8,
+        erasures_len: usize,
         main: *mut u8,
         main_len: usize,
         report: *mut u32,
@@ -101,6 +110,8 @@ extern "C" {
         stream_len: usize,
         block: *mut u8,
         block_len: usize,
+        erasures: *mut u8,
+        erasures_len: usize,
         main: *mut u8,
         main_len: usize,
         report: *mut u32,

@@ -1,7 +1,7 @@
 use std::error::Error;
 use std::fmt;
 
-/// What a call refuses, by the numbers of documents 01 and 02: 1 to 10, 12 and 13.
+/// What a call refuses, by the numbers of documents 01 and 02: 1 to 13.
 ///
 /// ```
 /// use chamanzil::{encode_block, Refusal, MAIN};
@@ -42,6 +42,8 @@ pub enum Refusal {
     Record,
     /// 10: the first number is not the previous block's first number plus 16.
     Sequence,
+    /// 11: a mark is neither 0 nor 1.
+    Erasure,
     /// 12: a take, and no trial is marked in the record. A [`Trial`](crate::Trial) is never refused with it.
     NotTried,
     /// 13: a take of a sector whose DSV is not the one that the trial gave.
@@ -63,6 +65,7 @@ impl Refusal {
             Refusal::RunUnfinished => 8,
             Refusal::Record => 9,
             Refusal::Sequence => 10,
+            Refusal::Erasure => 11,
             Refusal::NotTried => 12,
             Refusal::OtherDsv => 13,
         }
@@ -99,6 +102,7 @@ impl fmt::Display for Refusal {
             }
             Refusal::Record => ": the writer never hands out this record",
             Refusal::Sequence => ": the first number is not the previous block's plus 16",
+            Refusal::Erasure => ": a mark is neither 0 nor 1",
             Refusal::NotTried => ": no trial of a sector is marked",
             Refusal::OtherDsv => ": the sector's DSV is not the one that the trial gave",
         })
@@ -122,6 +126,7 @@ pub(crate) fn answer(number: u32, frame: u32) -> Result<(), Refusal> {
         8 => Err(Refusal::RunUnfinished),
         9 => Err(Refusal::Record),
         10 => Err(Refusal::Sequence),
+        11 => Err(Refusal::Erasure),
         12 => Err(Refusal::NotTried),
         13 => Err(Refusal::OtherDsv),
         other => unreachable!("no contract of crates/ffi gives {other}"),

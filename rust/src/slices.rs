@@ -165,63 +165,100 @@ pub fn close(record: &mut Record, out: &mut [u8]) -> Result<(), Refusal> {
     answer(number, 0)
 }
 
-/// The sector reader: 4,838 bytes of stream to 2,366. `report` has two numbers: unknown words, and SYNC places that hold no code due there.
+/// The sector reader: 4,838 bytes of stream to 2,366, and to as many marks, 1 for an unknown word and 0 for any other. `report` has two numbers: unknown words, and
+/// SYNC places that hold no code due there.
 ///
 /// # Errors
-/// 1, with `out` and `report` as they were.
-pub fn read_sector(stream: &[u8], out: &mut [u8], report: &mut [u32]) -> Result<(), Refusal> {
-    let (to, size) = (out.as_mut_ptr(), out.len());
+/// 1, with `out`, `erasures` and `report` as they were.
+pub fn read_sector(
+    stream: &[u8],
+    out: &mut [u8],
+    erasures: &mut [u8],
+    report: &mut [u32],
+) -> Result<(), Refusal> {
+    let (o, e, r) = (out.as_mut_ptr(), erasures.as_mut_ptr(), report.as_mut_ptr());
     let number = unsafe {
         raw::chamanzil_read_sector(
             stream.as_ptr(),
             stream.len(),
-            to,
-            size,
-            report.as_mut_ptr(),
+            o,
+            out.len(),
+            e,
+            erasures.len(),
+            r,
             report.len(),
         )
     };
     answer(number, 0)
 }
 
-/// The block repairer: a block of 37,856 bytes, repaired in place, to 32,768 main data bytes. `report` has six numbers: the first number, rows changed and past
-/// help, columns changed and past help, and the frame refused.
+/// The block repairer: a block of 37,856 bytes with as many marks, repaired in place, to 32,768 main data bytes. `report` has six numbers: the first number, rows
+/// changed and past help, columns changed and past help, and the frame refused.
+///
+/// ```
+/// use chamanzil::{slices, Refusal, BLOCK, MAIN, REPAIR_REPORT};
+/// let (main, mut block, mut erasures) = (vec![1; MAIN], vec![0; BLOCK], vec![0; BLOCK]);
+/// slices::encode_block(&main, None, 16, 0, &mut block)?;
+/// block[..10].fill(255);
+/// erasures[..10].fill(1);
+/// erasures[10] = 2;
+/// let (damaged, mut out, mut report) = (block.clone(), vec![165; MAIN], [7; REPAIR_REPORT]);
+/// let refused = slices::repair_block(&mut block, &erasures, &mut out, &mut report);
+/// assert_eq!(refused, Err(Refusal::Erasure));
+/// assert_eq!((&block, &out, report), (&damaged, &vec![165; MAIN], [7; REPAIR_REPORT]));
+///
+/// erasures[10] = 0;
+/// slices::repair_block(&mut block, &erasures, &mut out, &mut report)?;
+/// assert_eq!((out, report), (main, [16, 1, 0, 0, 0, 0]));
+/// # Ok::<(), Refusal>(())
+/// ```
 ///
 /// # Errors
-/// 1, with everything as it was; 4, 5 or 6, with `main` as it was and `block` repaired.
-pub fn repair_block(block: &mut [u8], main: &mut [u8], report: &mut [u32]) -> Result<(), Refusal> {
-    let (b, m) = (block.as_mut_ptr(), main.as_mut_ptr());
+/// 1 or 11, with everything as it was; 4, 5 or 6, with `main` as it was and `block` repaired.
+pub fn repair_block(
+    block: &mut [u8],
+    erasures: &[u8],
+    main: &mut [u8],
+    report: &mut [u32],
+) -> Result<(), Refusal> {
+    let (b, m, r) = (block.as_mut_ptr(), main.as_mut_ptr(), report.as_mut_ptr());
     let number = unsafe {
         raw::chamanzil_repair_block(
             b,
             block.len(),
+            erasures.as_ptr(),
+            erasures.len(),
             m,
             main.len(),
-            report.as_mut_ptr(),
+            r,
             report.len(),
         )
     };
     answer(number, report.last().copied().unwrap_or(0))
 }
 
-/// The whole-block reader: 77,380 bytes of stream, the last four a closing code or the next block's SYNC Code, to a block of 37,856, as the repairer leaves it, and 32,768 main data bytes. `report` has eight numbers: the
-/// repairer's, with the sums of the two sector tallies before the frame.
+/// The whole-block reader: 77,380 bytes of stream, the last four a closing code or the next block's SYNC Code, to a block of 37,856, as the repairer leaves it, the
+/// sectors' marks, as many, and 32,768 main data bytes. `report` has eight numbers: the repairer's, with the sums of the two sector tallies before the frame.
 ///
 /// # Errors
-/// 1, with everything as it was; 4, 5 or 6, with `main` as it was and `block` read and repaired.
+/// 1, with everything as it was; 4, 5 or 6, with `main` as it was, `erasures` the marks and `block` read and repaired.
 pub fn read_block(
     stream: &[u8],
     block: &mut [u8],
+    erasures: &mut [u8],
     main: &mut [u8],
     report: &mut [u32],
 ) -> Result<(), Refusal> {
-    let (b, m, r) = (block.as_mut_ptr(), main.as_mut_ptr(), report.as_mut_ptr());
+    let (b, e) = (block.as_mut_ptr(), erasures.as_mut_ptr());
+    let (m, r) = (main.as_mut_ptr(), report.as_mut_ptr());
     let number = unsafe {
         raw::chamanzil_read_block(
             stream.as_ptr(),
             stream.len(),
             b,
             block.len(),
+            e,
+            erasures.len(),
             m,
             main.len(),
             r,
@@ -267,12 +304,15 @@ pub fn ied(id: &[u8], out: &mut [u8]) -> Result<(), Refusal> {
     )
 }
 
-/// The repair of a row of 182 bytes, in place.
+/// The repair of a row of 182 bytes with as many marks, in place.
 ///
 /// # Errors
-/// 1, with `row` as it was.
-pub fn correct_row(row: &mut [u8]) -> Result<crate::Outcome, Refusal> {
-    crate::words::outcome(unsafe { raw::chamanzil_correct_row(row.as_mut_ptr(), row.len()) })
+/// 1 or 11, with `row` as it was.
+pub fn correct_row(row: &mut [u8], erasures: &[u8]) -> Result<crate::Outcome, Refusal> {
+    let (marks, size) = (erasures.as_ptr(), erasures.len());
+    crate::words::outcome(unsafe {
+        raw::chamanzil_correct_row(row.as_mut_ptr(), row.len(), marks, size)
+    })
 }
 
 /// The repair of a column of 208 bytes, in place.

@@ -8,7 +8,7 @@ pub enum Outcome {
     Clean,
     /// It became the code word near it.
     Corrected,
-    /// There is none near enough, and it stays.
+    /// There is none near enough, or a row has more than ten marks, and it stays.
     Uncorrectable,
 }
 
@@ -61,18 +61,33 @@ pub fn ied(id: &[u8; 4]) -> [u8; 2] {
     out
 }
 
-/// A row becomes the one code row within five bytes, or stays.
+/// A row with f marks becomes the one code row that differs from it in e bytes without a mark, 2e + f at most 10, or stays. Without marks that is the code row within
+/// five bytes. A row with more than ten marks stays and is past help, also where it is a code row.
 ///
 /// ```
-/// use chamanzil::{correct_row, Outcome};
-/// let mut row = [0; 182];
+/// use chamanzil::{correct_row, Outcome, Refusal};
+/// let (mut row, mut erasures) = ([0; 182], [0; 182]); // zeros are a code row
 /// row[..5].fill(9);
-/// assert_eq!(correct_row(&mut row), Outcome::Corrected);
+/// assert_eq!(correct_row(&mut row, &erasures), Ok(Outcome::Corrected));
 /// assert_eq!(row, [0; 182]);
-/// assert_eq!(correct_row(&mut row), Outcome::Clean);
+///
+/// row[..10].fill(9);
+/// assert_eq!(correct_row(&mut row, &erasures), Ok(Outcome::Uncorrectable));
+/// erasures[..10].fill(1);
+/// assert_eq!(correct_row(&mut row, &erasures), Ok(Outcome::Corrected));
+/// assert_eq!(row, [0; 182]);
+/// assert_eq!(correct_row(&mut row, &erasures), Ok(Outcome::Clean));
+///
+/// erasures[10] = 1;
+/// assert_eq!(correct_row(&mut row, &erasures), Ok(Outcome::Uncorrectable));
+/// erasures[10] = 2;
+/// assert_eq!(correct_row(&mut row, &erasures), Err(Refusal::Erasure));
 /// ```
-pub fn correct_row(row: &mut [u8; ROW]) -> Outcome {
-    stated(slices::correct_row(row))
+///
+/// # Errors
+/// 11, with `row` as it was.
+pub fn correct_row(row: &mut [u8; ROW], erasures: &[u8; ROW]) -> Result<Outcome, Refusal> {
+    slices::correct_row(row, erasures)
 }
 
 /// A column becomes the one code column within eight bytes, or stays.

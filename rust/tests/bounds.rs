@@ -3,7 +3,7 @@
 mod common;
 
 use chamanzil::slices;
-use chamanzil::{Record, Refusal};
+use chamanzil::{Outcome, Record, Refusal};
 use chamanzil::{
     BLOCK, BLOCK_STREAM, CLOSING, MAIN, RUN_SECTORS, SECTOR, SECTOR_READ, SECTOR_STREAM, STREAM,
 };
@@ -195,56 +195,94 @@ fn write_block() {
     );
 }
 
-#[test]
-fn read_sector() {
-    let mut two = [0; 2];
-    sweep(&[SECTOR_READ, SECTOR], |b| {
-        let [stream, out] = b else { unreachable!() };
-        slices::read_sector(stream.lend(), out.lend(), &mut two)
-    });
-    let (stream, mut out) = ([0; SECTOR_READ], [0; SECTOR]);
-    sweep_report(2, |report| slices::read_sector(&stream, &mut out, report));
-    rounds(100, &[SECTOR_READ, SECTOR], |b, report, _| {
-        let [stream, out] = b else { unreachable!() };
-        slices::read_sector(stream.lend(), out.lend(), &mut report[..2]).unwrap();
-    });
+/// How many marks there are, each 0 or 1.
+fn count_marks(erasures: &[u8]) -> u32 {
+    assert!(erasures.iter().all(|mark| *mark <= 1));
+    erasures.iter().map(|mark| u32::from(*mark)).sum()
+}
+
+/// Turns random bytes into marks, one in so many.
+fn to_marks(erasures: &mut [u8], of: u8) {
+    for mark in erasures {
+        *mark = u8::from(*mark % of == 0);
+    }
 }
 
 #[test]
+fn read_sector() {
+    let mut two = [0; 2];
+    sweep(&[SECTOR_READ, SECTOR, SECTOR], |b| {
+        let [stream, out, erasures] = b else {
+            unreachable!()
+        };
+        slices::read_sector(stream.lend(), out.lend(), erasures.lend(), &mut two)
+    });
+    let (stream, mut out, mut erasures) = ([0; SECTOR_READ], [0; SECTOR], [0; SECTOR]);
+    sweep_report(2, |report| {
+        slices::read_sector(&stream, &mut out, &mut erasures, report)
+    });
+    rounds(100, &[SECTOR_READ, SECTOR, SECTOR], |b, report, _| {
+        let [stream, out, erasures] = b else {
+            unreachable!()
+        };
+        let two = &mut report[..2];
+        slices::read_sector(stream.lend(), out.lend(), erasures.lend(), two).unwrap();
+        assert_eq!(count_marks(erasures.lend()), two[0]);
+    });
+}
+
+/// In the sweep the marks are random bytes too: 1 goes before 11.
+#[test]
 fn repair_block() {
     let mut six = [0; 6];
-    sweep(&[BLOCK, MAIN], |b| {
-        let [block, main] = b else { unreachable!() };
-        slices::repair_block(block.lend(), main.lend(), &mut six)
+    sweep(&[BLOCK, BLOCK, MAIN], |b| {
+        let [block, erasures, main] = b else {
+            unreachable!()
+        };
+        slices::repair_block(block.lend(), erasures.lend(), main.lend(), &mut six)
     });
-    let (mut block, mut main) = (vec![0; BLOCK], vec![0; MAIN]);
+    let (mut block, erasures, mut main) = (vec![0; BLOCK], vec![0; BLOCK], vec![0; MAIN]);
     sweep_report(6, |report| {
-        slices::repair_block(&mut block, &mut main, report)
+        slices::repair_block(&mut block, &erasures, &mut main, report)
     });
-    rounds(3, &[BLOCK, MAIN], |b, report, _| {
-        let [block, main] = b else { unreachable!() };
-        assert!(slices::repair_block(block.lend(), main.lend(), &mut report[..6]).is_err());
+    rounds(9, &[BLOCK, BLOCK, MAIN], |b, report, numbers| {
+        let [block, erasures, main] = b else {
+            unreachable!()
+        };
+        let six = &mut report[..6];
+        let answer = slices::repair_block(block.lend(), erasures.lend(), main.lend(), six);
+        assert_eq!(answer, Err(Refusal::Erasure));
+        to_marks(erasures.lend(), [1, 20, 255][numbers.below(3)]);
+        let was = erasures.lend().to_vec();
+        let answer = slices::repair_block(block.lend(), erasures.lend(), main.lend(), six);
+        assert!((4..=6).contains(&answer.unwrap_err().number()));
+        assert!(erasures.lend() == was, "the marks are only read");
     });
 }
 
 #[test]
 fn read_block() {
     let mut eight = [0; 8];
-    sweep(&[STREAM, BLOCK, MAIN], |b| {
-        let [stream, block, main] = b else {
+    sweep(&[STREAM, BLOCK, BLOCK, MAIN], |b| {
+        let [stream, block, erasures, main] = b else {
             unreachable!()
         };
-        slices::read_block(stream.lend(), block.lend(), main.lend(), &mut eight)
+        let (stream, block) = (stream.lend(), block.lend());
+        slices::read_block(stream, block, erasures.lend(), main.lend(), &mut eight)
     });
-    let (stream, mut block, mut main) = (vec![0; STREAM], vec![0; BLOCK], vec![0; MAIN]);
+    let (stream, mut main) = (vec![0; STREAM], vec![0; MAIN]);
+    let (mut block, mut erasures) = (vec![0; BLOCK], vec![0; BLOCK]);
     sweep_report(8, |report| {
-        slices::read_block(&stream, &mut block, &mut main, report)
+        slices::read_block(&stream, &mut block, &mut erasures, &mut main, report)
     });
-    rounds(3, &[STREAM, BLOCK, MAIN], |b, report, _| {
-        let [stream, block, main] = b else {
+    rounds(3, &[STREAM, BLOCK, BLOCK, MAIN], |b, report, _| {
+        let [stream, block, erasures, main] = b else {
             unreachable!()
         };
-        assert!(slices::read_block(stream.lend(), block.lend(), main.lend(), report).is_err());
+        let (stream, block) = (stream.lend(), block.lend());
+        let answer = slices::read_block(stream, block, erasures.lend(), main.lend(), report);
+        assert!((4..=6).contains(&answer.unwrap_err().number()));
+        assert!(count_marks(erasures.lend()) > 0);
     });
 }
 
@@ -262,16 +300,14 @@ fn rows_columns_and_words() {
         let [id, out] = b else { unreachable!() };
         slices::ied(id.lend(), out.lend())
     });
-    sweep(&[182], |b| slices::correct_row(b[0].lend()).map(|_| ()));
     sweep(&[208], |b| slices::correct_column(b[0].lend()).map(|_| ()));
-    rounds(200, &[172, 10, 192, 16, 4, 2, 182, 208], |b, _, numbers| {
-        let [row, ten, column, sixteen, id, two, whole_row, whole_column] = b else {
+    rounds(200, &[172, 10, 192, 16, 4, 2, 208], |b, _, numbers| {
+        let [row, ten, column, sixteen, id, two, whole_column] = b else {
             unreachable!()
         };
         slices::row_parity(row.lend(), ten.lend()).unwrap();
         slices::column_parity(column.lend(), sixteen.lend()).unwrap();
         slices::ied(id.lend(), two.lend()).unwrap();
-        slices::correct_row(whole_row.lend()).unwrap();
         slices::correct_column(whole_column.lend()).unwrap();
         let [a, b, c, d, ..] = numbers.next().to_le_bytes();
         let _ = chamanzil::read_word(u16::from_le_bytes([a, b]), u16::from_le_bytes([c, d]));
@@ -287,6 +323,26 @@ fn rows_columns_and_words() {
         assert!(!chamanzil::closing_holds(bytes.lend()));
         bytes.is_as_it_was(&pattern);
     }
+}
+
+/// Rows with marks of every number around ten.
+#[test]
+fn rows_with_marks() {
+    sweep(&[182, 182], |b| {
+        let [row, erasures] = b else { unreachable!() };
+        slices::correct_row(row.lend(), erasures.lend()).map(|_| ())
+    });
+    rounds(600, &[182, 182], |b, _, numbers| {
+        let [row, erasures] = b else { unreachable!() };
+        let answer = slices::correct_row(row.lend(), erasures.lend());
+        assert_eq!(answer, Err(Refusal::Erasure));
+        to_marks(erasures.lend(), [1, 12, 18, 40, 255][numbers.below(5)]);
+        let (was, marks) = (row.lend().to_vec(), erasures.lend().to_vec());
+        let outcome = slices::correct_row(row.lend(), erasures.lend()).unwrap();
+        assert!(erasures.lend() == marks, "the marks are only read");
+        assert_eq!(outcome == Outcome::Corrected, row.lend() != was);
+        assert!(count_marks(&marks) <= 10 || outcome == Outcome::Uncorrectable);
+    });
 }
 
 /// Whether a run may be closed after so many sectors.

@@ -1,4 +1,4 @@
-//! Each of the papers' refusals, 1 to 10, 12 and 13, with every lent buffer and record compared before and after.
+//! Each of the papers' refusals, 1 to 13, with every lent buffer and record compared before and after.
 mod common;
 
 use chamanzil::{encode_block, ied, slices, Record, Refusal, Writer};
@@ -72,18 +72,22 @@ fn length_1_of_the_writer() {
 #[test]
 fn length_1_of_sectors_and_words() {
     let (main, mut out, mut two) = (vec![0; MAIN], vec![OLD; MAIN], [7; 2]);
-    assert_eq!(
-        slices::read_sector(&main[..SECTOR_READ - 1], &mut out[..SECTOR], &mut two),
-        Err(Refusal::Length)
-    );
-    assert_eq!(
-        slices::read_sector(&main[..SECTOR_READ], &mut out[..=SECTOR], &mut two),
-        Err(Refusal::Length)
-    );
-    assert_eq!(
-        slices::read_sector(&main[..SECTOR_READ], &mut out[..SECTOR], &mut two[..1]),
-        Err(Refusal::Length)
-    );
+    let mut erasures = vec![OLD; SECTOR + 1];
+    for (from, to, marks, numbers) in [
+        (SECTOR_READ - 1, SECTOR, SECTOR, 2),
+        (SECTOR_READ, SECTOR + 1, SECTOR, 2),
+        (SECTOR_READ, SECTOR, SECTOR - 1, 2),
+        (SECTOR_READ, SECTOR, SECTOR + 1, 2),
+        (SECTOR_READ, SECTOR, SECTOR, 1),
+    ] {
+        let answer = slices::read_sector(
+            &main[..from],
+            &mut out[..to],
+            &mut erasures[..marks],
+            &mut two[..numbers],
+        );
+        assert_eq!(answer, Err(Refusal::Length));
+    }
     assert_eq!(
         slices::row_parity(&main[..171], &mut out[..10]),
         Err(Refusal::Length)
@@ -93,41 +97,60 @@ fn length_1_of_sectors_and_words() {
         Err(Refusal::Length)
     );
     assert_eq!(slices::ied(&main[..5], &mut out[..2]), Err(Refusal::Length));
-    assert_eq!(slices::correct_row(&mut out[..183]), Err(Refusal::Length));
+    for (row, marks) in [(183, 182), (182, 181), (182, 183), (183, 183)] {
+        assert_eq!(
+            slices::correct_row(&mut out[..row], &main[..marks]),
+            Err(Refusal::Length)
+        );
+    }
     assert_eq!(
         slices::correct_column(&mut out[..207]),
         Err(Refusal::Length)
     );
-    assert_eq!((out, two), (vec![OLD; MAIN], [7; 2]));
+    assert_eq!(
+        (out, erasures, two),
+        (vec![OLD; MAIN], vec![OLD; SECTOR + 1], [7; 2])
+    );
 }
 
 #[test]
 fn length_1_of_the_repairs() {
-    let (stream, mut block, mut main, mut report) =
-        (vec![0; STREAM], vec![OLD; BLOCK], vec![OLD; MAIN], [7; 8]);
+    let (stream, mut main, mut report) = (vec![0; STREAM], vec![OLD; MAIN], [7; 8]);
+    let (mut block, mut erasures) = (vec![OLD; BLOCK], vec![OLD; BLOCK]);
     let cases = [
-        (STREAM, BLOCK, MAIN, 7),
-        (STREAM, BLOCK, MAIN - 1, 8),
-        (STREAM, BLOCK - 1, MAIN, 8),
-        (STREAM - 1, BLOCK, MAIN, 8),
+        (STREAM, BLOCK, BLOCK, MAIN, 7),
+        (STREAM, BLOCK, BLOCK, MAIN - 1, 8),
+        (STREAM, BLOCK, BLOCK - 1, MAIN, 8),
+        (STREAM, BLOCK - 1, BLOCK, MAIN, 8),
+        (STREAM - 1, BLOCK, BLOCK, MAIN, 8),
     ];
-    for (s, b, m, r) in cases {
+    for (s, b, e, m, r) in cases {
         let answer = slices::read_block(
             &stream[..s],
             &mut block[..b],
+            &mut erasures[..e],
             &mut main[..m],
             &mut report[..r],
         );
         assert_eq!(answer, Err(Refusal::Length));
     }
-    for (b, m, r) in [(BLOCK, MAIN, 5), (BLOCK, MAIN - 1, 6), (BLOCK - 1, MAIN, 6)] {
-        let answer = slices::repair_block(&mut block[..b], &mut main[..m], &mut report[..r]);
+    // the marks are none: 1 goes before 11
+    for (b, e, m, r) in [
+        (BLOCK, BLOCK, MAIN, 5),
+        (BLOCK, BLOCK, MAIN - 1, 6),
+        (BLOCK, BLOCK - 1, MAIN, 6),
+        (BLOCK - 1, BLOCK, MAIN, 6),
+    ] {
+        let answer = slices::repair_block(
+            &mut block[..b],
+            &erasures[..e],
+            &mut main[..m],
+            &mut report[..r],
+        );
         assert_eq!(answer, Err(Refusal::Length));
     }
-    assert_eq!(
-        (block, main, report),
-        (vec![OLD; BLOCK], vec![OLD; MAIN], [7; 8])
-    );
+    assert_eq!((block, erasures), (vec![OLD; BLOCK], vec![OLD; BLOCK]));
+    assert_eq!((main, report), (vec![OLD; MAIN], [7; 8]));
 }
 
 #[test]
@@ -179,21 +202,27 @@ fn judge(edit: impl Fn(&mut [u8; BLOCK]), due: Refusal) {
     let stream = stream_of(&block);
 
     // wrong bytes on top, which the repair takes away: the block buffer then holds the block after both repairs
-    let mut read = block.clone();
+    let (mut read, none) = (block.clone(), buffer(0));
     read[1000] ^= 1;
     let mut main = vec![OLD; MAIN];
     let mut report = [7; 6];
     assert_eq!(
-        slices::repair_block(&mut read[..], &mut main, &mut report),
+        slices::repair_block(&mut read[..], &none[..], &mut main, &mut report),
         Err(due)
     );
     assert_eq!((&read, &main), (&block, &vec![OLD; MAIN]));
     assert_eq!(report, [0, 0, 0, 0, 0, u32::from(due.frame().unwrap())]);
 
-    let mut read = vec![OLD; BLOCK];
+    let (mut read, mut erasures) = (vec![OLD; BLOCK], vec![OLD; BLOCK]);
     let mut report = [7; 8];
     assert_eq!(
-        slices::read_block(&stream[..], &mut read, &mut main, &mut report),
+        slices::read_block(
+            &stream[..],
+            &mut read,
+            &mut erasures,
+            &mut main,
+            &mut report
+        ),
         Err(due)
     );
     assert_eq!((&read[..], &main), (&block[..], &vec![OLD; MAIN]));
@@ -201,8 +230,10 @@ fn judge(edit: impl Fn(&mut [u8; BLOCK]), due: Refusal) {
         report,
         [0, 0, 0, 0, 0, 0, 0, u32::from(due.frame().unwrap())]
     );
+    // the stream is whole: no word of it is marked
+    assert_eq!(erasures, vec![0; BLOCK]);
     assert_eq!(chamanzil::read_block(&stream), Err(due));
-    assert_eq!(chamanzil::repair_block(&mut block), Err(due));
+    assert_eq!(chamanzil::repair_block(&mut block, &none), Err(due));
 }
 
 /// An ID in frame k, with its IED.
@@ -256,6 +287,80 @@ fn edc_6() {
         },
         Refusal::Ied { frame: 9 },
     );
+}
+
+/// The repairer is refused with 11 for these marks, and leaves everything.
+fn marks_refused(block: &[u8; BLOCK], erasures: &[u8; BLOCK]) {
+    let (mut after, mut main, mut report) = (*block, vec![OLD; MAIN], [7; 6]);
+    let answer = slices::repair_block(&mut after, erasures, &mut main, &mut report);
+    assert_eq!(answer, Err(Refusal::Erasure));
+    assert!(after == *block, "the block after 11");
+    assert_eq!((main, report), (vec![OLD; MAIN], [7; 6]));
+    assert_eq!(
+        chamanzil::repair_block(&mut after, erasures),
+        Err(Refusal::Erasure)
+    );
+    assert!(after == *block, "the block after 11");
+}
+
+/// A mark that is neither 0 nor 1 at any place, alone and among others, in a block with wrong bytes that would be put right.
+#[test]
+fn erasure_11() {
+    let mut block = encode_block(&main_data(2), None, 0x03_0000, 0).unwrap();
+    block[..5].fill(OLD);
+    for others in [0, 1] {
+        for place in [0, 1, 181, 182, 20_000, BLOCK - 182, BLOCK - 1] {
+            for mark in [2, 3, 128, 254, 255] {
+                let mut erasures = buffer(others);
+                erasures[place] = mark;
+                marks_refused(&block, &erasures);
+            }
+        }
+    }
+    marks_refused(&block, &buffer(2));
+}
+
+#[test]
+fn erasure_11_of_a_row() {
+    for place in [0, 9, 100, 181] {
+        for mark in 2..=255 {
+            let (mut row, mut erasures) = ([0; 182], [0; 182]);
+            row[..10].fill(OLD);
+            erasures[..10].fill(1);
+            erasures[place] = mark;
+            let was = row;
+            let refused = Err(Refusal::Erasure);
+            assert_eq!(chamanzil::correct_row(&mut row, &erasures), refused);
+            assert_eq!(slices::correct_row(&mut row, &erasures), refused);
+            // 1 goes before 11
+            for (r, e) in [(181, 182), (182, 181)] {
+                let answer = slices::correct_row(&mut row[..r], &erasures[182 - e..]);
+                assert_eq!(answer, Err(Refusal::Length));
+            }
+            assert_eq!(row, was);
+        }
+    }
+}
+
+/// A block with reasons for 4, 5 or 6, and marks that get 11 before them; with marks as they should be it gets its number.
+#[test]
+fn order_with_11() {
+    let edits: [fn(&mut [u8; BLOCK]); 3] = [
+        |block| block[frame_place(0, 4)] ^= 1,
+        |block| set_id(block, 0, [0, 3, 0, 8]),
+        |block| block[frame_place(0, 2060)] ^= 1,
+    ];
+    for (number, edit) in (4..).zip(edits) {
+        let mut block = encode_block(&main_data(2), None, 0x03_0000, 0).unwrap();
+        edit(&mut block);
+        with_parity(&mut block);
+        let mut erasures = buffer(0);
+        erasures[BLOCK - 1] = 2;
+        marks_refused(&block, &erasures);
+        erasures[BLOCK - 1] = 1;
+        let refusal = chamanzil::repair_block(&mut block, &erasures).unwrap_err();
+        assert_eq!((refusal.number(), refusal.frame()), (number, Some(0)));
+    }
 }
 
 const SEQUENCE: Result<(), Refusal> = Err(Refusal::Sequence);
@@ -665,6 +770,9 @@ fn numbers_and_words() {
         Refusal::RunUnfinished,
         Refusal::Record,
         Refusal::Sequence,
+        Refusal::Erasure,
+        Refusal::NotTried,
+        Refusal::OtherDsv,
     ];
     for (n, refusal) in (1..).zip(all) {
         assert_eq!(refusal.number(), n);
@@ -685,5 +793,9 @@ fn numbers_and_words() {
     assert_eq!(
         Refusal::Sequence.to_string(),
         "refused 10: the first number is not the previous block's plus 16"
+    );
+    assert_eq!(
+        Refusal::Erasure.to_string(),
+        "refused 11: a mark is neither 0 nor 1"
     );
 }

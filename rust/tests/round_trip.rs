@@ -1,12 +1,30 @@
-//! What is formatted is read back, as it is and scratched within the limit that demand 3 states.
+//! What is formatted is read back, as it is and scratched within the limits that demand 3 and the theorem of marks state.
 mod common;
 
 use chamanzil::{
-    encode_block, format_block, read_block, read_sector, repair_block, zero_runs_hold, Refusal,
-    Tally,
+    encode_block, format_block, read_block, read_sector, repair_block, slices, zero_runs_hold,
+    Refusal, Tally,
 };
-use chamanzil::{SECTOR, SECTOR_READ, SECTOR_STREAM};
-use common::{main_data, stream_of, Numbers};
+use chamanzil::{BLOCK, MAIN, ROW, ROW_DATA, SECTOR, SECTOR_READ, SECTOR_STREAM, STREAM};
+use common::{buffer, main_data, stream_of, Numbers};
+
+/// Bytes of a row in a stream: two Sync Frames.
+const ROW_STREAM: usize = 372;
+
+type Block = Box<[u8; BLOCK]>;
+
+/// The sector reader's bytes and marks, sector by sector, and how many words are unknown.
+fn by_sectors(stream: &[u8; STREAM]) -> (Block, Block, u32) {
+    let (mut block, mut erasures, mut unknown) = (buffer(0), buffer(0), 0);
+    for k in 0..16 {
+        let part = &stream[k * SECTOR_STREAM..k * SECTOR_STREAM + SECTOR_READ];
+        let read = read_sector(part.try_into().unwrap());
+        block[k * SECTOR..(k + 1) * SECTOR].copy_from_slice(&read.bytes[..]);
+        erasures[k * SECTOR..(k + 1) * SECTOR].copy_from_slice(&read.erasures[..]);
+        unknown += read.unknown;
+    }
+    (block, erasures, unknown)
+}
 
 #[test]
 fn as_it_is() {
@@ -21,19 +39,14 @@ fn as_it_is() {
         let stream = format_block(&main, first, info).unwrap();
         assert_eq!(stream, stream_of(&block));
         assert!(zero_runs_hold(&stream[..]));
-        for k in 0..16 {
-            let part = &stream[k * SECTOR_STREAM..k * SECTOR_STREAM + SECTOR_READ];
-            let read = read_sector(part.try_into().unwrap());
-            assert_eq!(read.bytes[..], block[k * SECTOR..(k + 1) * SECTOR]);
-            assert_eq!((read.unknown, read.sync), (0, 0));
-        }
+        assert_eq!(by_sectors(&stream), (block.clone(), buffer(0), 0));
         let read = read_block(&stream).unwrap();
-        assert_eq!(read.main, main);
+        assert_eq!((&read.main, &read.erasures), (&main, &buffer(0)));
         assert_eq!(
             read.to_string(),
             format!("block {first:06X} rows 0 0 columns 0 0 unknown 0 sync 0")
         );
-        let repaired = repair_block(&mut block.clone()).unwrap();
+        let repaired = repair_block(&mut block.clone(), &buffer::<BLOCK>(0)).unwrap();
         assert_eq!((repaired.main, repaired.first), (main, first));
         assert_eq!(
             (repaired.rows, repaired.columns),
@@ -64,6 +77,97 @@ fn scratched() {
     }
 }
 
+/// The first ten words of each row blanked, which come back from the row repair by their marks. ZEROs are no word, and before them stands a SYNC Code, so that no
+/// other byte is touched.
+#[test]
+fn ten_unknown_words_in_each_row() {
+    let main = main_data(21);
+    let block = encode_block(&main, None, 0x03_0000, 0).unwrap();
+    let mut stream = format_block(&main, 0x03_0000, 0).unwrap();
+    for row in stream.chunks_exact_mut(ROW_STREAM) {
+        row[4..24].fill(0);
+    }
+    let (mut read, erasures, unknown) = by_sectors(&stream);
+    let is_due = |(i, mark): (usize, &u8)| *mark == u8::from(i % ROW < 10);
+    assert!(erasures.iter().enumerate().all(is_due));
+    assert_eq!(unknown, 2_080);
+
+    let repaired = repair_block(&mut read, &erasures).unwrap();
+    let rows = Tally {
+        changed: 208,
+        past_help: 0,
+    };
+    assert_eq!((repaired.rows, repaired.columns), (rows, Tally::default()));
+    assert!(repaired.main == main && read == block);
+    let read = read_block(&stream).unwrap();
+    assert_eq!((read.main, read.erasures), (main, erasures));
+    assert_eq!((read.rows, read.unknown), (rows, 2_080));
+
+    // without marks it is too much
+    let (mut read, _, _) = by_sectors(&stream);
+    assert!(repair_block(&mut read, &buffer::<BLOCK>(0)).is_err());
+}
+
+/// Wrong bytes at so many places of a row, each another; the first f of the places are marked, and half of the marked bytes stay right.
+fn spoil(numbers: &mut Numbers, row: &mut [u8], erasures: &mut [u8], f: usize, e: usize) {
+    let mut places: Vec<usize> = (0..ROW).collect();
+    for k in 0..f + e {
+        let other = k + numbers.below(ROW - k);
+        places.swap(k, other);
+        if k >= f || numbers.below(2) == 0 {
+            row[places[k]] ^= 1 + numbers.byte() % 255;
+        }
+        erasures[places[k]] = u8::from(k < f);
+    }
+}
+
+/// 2e + f at most 10 in all rows but eight, which are any bytes with any marks: the other rows come back, and the block is read.
+#[test]
+fn marks_and_wrong_bytes() {
+    let mut numbers = Numbers::new(22);
+    for round in 0..12 {
+        let main = main_data(round);
+        let block = encode_block(&main, None, 16 * 7, 0).unwrap();
+        let (mut read, mut erasures) = (block.clone(), buffer::<BLOCK>(0));
+        let heavy: Vec<usize> = (0..8).map(|_| numbers.below(208)).collect();
+        let rows = read
+            .chunks_exact_mut(ROW)
+            .zip(erasures.chunks_exact_mut(ROW));
+        for (i, (row, marks)) in rows.enumerate() {
+            if heavy.contains(&i) {
+                row.copy_from_slice(&numbers.bytes(ROW));
+                marks.fill_with(|| u8::from(numbers.below(12) == 0));
+            } else {
+                let f = numbers.below(11);
+                let e = (10 - f) / 2;
+                spoil(&mut numbers, row, marks, f, e);
+            }
+        }
+        let repaired = repair_block(&mut read, &erasures).unwrap();
+        assert!(repaired.main == main && repaired.rows.past_help <= 8);
+        let is_lost = |i: usize| heavy.contains(&(i / ROW)) && i % ROW >= ROW_DATA;
+        assert!((0..BLOCK).all(|i| read[i] == block[i] || is_lost(i)));
+    }
+}
+
+/// Past the theorem marks can do harm: nine rows with one wrong byte each, all in one column, and eleven marks on bytes that are right. EDC judges both ways.
+#[test]
+fn refused_with_marks_and_read_without() {
+    let main = main_data(23);
+    let block = encode_block(&main, None, 0, 0).unwrap();
+    let (mut read, mut erasures) = (block.clone(), buffer::<BLOCK>(0));
+    for row in 13..22 {
+        read[row * ROW + 50] ^= 1;
+        erasures[row * ROW + 100..][..11].fill(1);
+    }
+    let refused = repair_block(&mut read.clone(), &erasures);
+    assert_eq!(refused, Err(Refusal::Edc { frame: 1 }));
+    let repaired = repair_block(&mut read, &buffer(0)).unwrap();
+    assert_eq!((repaired.rows.changed, repaired.rows.past_help), (9, 0));
+    assert!(repaired.main == main && read == block);
+}
+
+/// A refusal of the whole-block reader leaves the sectors' marks too.
 #[test]
 fn too_much() {
     let mut stream = format_block(&main_data(8), 0, 0).unwrap();
@@ -74,4 +178,16 @@ fn too_much() {
         Refusal::Ied { .. } | Refusal::Id { .. } | Refusal::Edc { .. }
     ));
     assert!(refusal.frame().unwrap() < 16);
+
+    let (mut block, mut erasures, mut main) = (vec![0; BLOCK], vec![9; BLOCK], vec![0; MAIN]);
+    let answer = slices::read_block(
+        &stream[..],
+        &mut block,
+        &mut erasures,
+        &mut main,
+        &mut [0; 8],
+    );
+    assert_eq!(answer, Err(refusal));
+    let (_, marks, unknown) = by_sectors(&stream);
+    assert!(erasures == marks[..] && unknown > 0);
 }

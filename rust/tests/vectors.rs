@@ -1,8 +1,9 @@
 //! Blocks and streams of a second formatter, written from the papers alone: crates/trials/data and tests/data/vectors.
 mod common;
 
-use chamanzil::{encode_block, format_block, read_block, slices, Record, Writer};
-use chamanzil::{BLOCK, BLOCK_STREAM, CLOSING, MAIN, SECTOR, SECTOR_STREAM, STREAM};
+use chamanzil::{correct_row, encode_block, format_block, read_block, slices};
+use chamanzil::{Outcome, Record, Writer};
+use chamanzil::{BLOCK, BLOCK_STREAM, CLOSING, MAIN, ROW, SECTOR, SECTOR_STREAM, STREAM};
 use common::{buffer, stream_of};
 use std::fs;
 use std::path::{Path, PathBuf};
@@ -56,19 +57,57 @@ fn sheets() {
     for line in list.lines() {
         let (name, due) = line.split_once('\t').unwrap();
         let stream = fs::read(path(&format!("tests/data/vectors/damaged/{name}.stream"))).unwrap();
-        let (mut block, mut main) = (vec![0; BLOCK], vec![0; MAIN]);
+        let (mut block, mut erasures, mut main) = (vec![0; BLOCK], vec![0; BLOCK], vec![0; MAIN]);
         let got = <&[u8; STREAM]>::try_from(&stream[..]).map_or_else(
             |_| {
-                slices::read_block(&stream, &mut block, &mut main, &mut [0; 8])
+                slices::read_block(&stream, &mut block, &mut erasures, &mut main, &mut [0; 8])
                     .map(|()| String::new())
             },
             |stream| read_block(stream).map(|read| read.to_string()),
         );
         let words = got.unwrap_or_else(|refusal| refusal.to_string());
-        assert_eq!(words.split(':').next(), Some(due));
+        assert_eq!(words.split(':').next(), Some(due), "{name}");
         lines += 1;
     }
-    assert!(lines > 5);
+    assert_eq!(lines, 12);
+}
+
+fn row_of(digits: &str) -> [u8; ROW] {
+    assert_eq!(digits.len(), 2 * ROW);
+    std::array::from_fn(|i| u8::from_str_radix(&digits[2 * i..][..2], 16).unwrap())
+}
+
+/// Marks at places with commas between them, or `-` for none.
+fn marks_of(places: &str) -> [u8; ROW] {
+    let mut erasures = [0; ROW];
+    for place in places.split(',').filter(|place| *place != "-") {
+        erasures[place.parse::<usize>().unwrap()] = 1;
+    }
+    erasures
+}
+
+/// Rows with their marks: row, marked places, what became of it, row after.
+#[test]
+fn rows() {
+    let list = fs::read_to_string(path("tests/data/vectors/rows.txt")).unwrap();
+    let mut seen = [0; 3];
+    for line in list.lines() {
+        let words: Vec<&str> = line.split(' ').collect();
+        let [row, places, fate, after] = words[..] else {
+            panic!("{line}")
+        };
+        let mut row = row_of(row);
+        let outcome = correct_row(&mut row, &marks_of(places)).unwrap();
+        let (due, kind) = match fate {
+            "clean" => (Outcome::Clean, 0),
+            "changed" => (Outcome::Corrected, 1),
+            "past" => (Outcome::Uncorrectable, 2),
+            _ => panic!("{line}"),
+        };
+        assert_eq!((outcome, row), (due, row_of(after)), "{line}");
+        seen[kind] += 1;
+    }
+    assert_eq!(seen, [8, 31, 26]);
 }
 
 /// Closing codes around the point where the choice tips, from every State at both levels.

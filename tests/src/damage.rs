@@ -1,14 +1,18 @@
 //! Streams with flipped bits, and which bytes of a block they touch (demand 3 in the mission's sense): a bit of the byte's own Code Word, or bit 15 or 3 of the
-//! half word after it. A stream is a block's: its sectors and the four bytes after them.
+//! half word after it. A stream is a block's: its sectors and the four bytes after them. A row is past what demand 3 allows with more than 5 touched bytes (heavy),
+//! or, by the marks of document 02's request 2, with 2e + f over 10 (overloaded), where f are its unknown words and e its other touched bytes.
+use crate::block::BLOCK;
 use crate::random::Random;
+use crate::reading::Reader;
 
 const ROWS: usize = 208;
 
-/// A stream beside the permitted one that it was, and the rows that may have more than 5 touched bytes.
+/// A stream beside the permitted one that it was, and the rows that may be past what demand 3 allows. With a reader marks count, and rows are measured by 2e + f.
 struct Damaged<'a> {
     right: &'a [u8],
+    reader: Option<&'a Reader>,
     stream: Vec<u8>,
-    is_heavy: [bool; ROWS],
+    is_past: [bool; ROWS],
 }
 
 fn half_at(stream: &[u8], half: usize) -> u16 {
@@ -28,12 +32,24 @@ fn row_of(half: usize) -> Option<usize> {
     Some(half / 93 / 2)
 }
 
+/// Another word for byte i.
+pub fn replace(stream: &mut [u8], i: usize, word: u16) {
+    stream[2 * half_of(i)..][..2].copy_from_slice(&word.to_be_bytes());
+}
+
+/// Makes the word of byte i unknown and touches no other byte: bits 15 and 3, by which the word before it is judged, stay. No word has these two ONEs or fewer.
+pub fn blank(stream: &mut [u8], i: usize) {
+    let left = half_at(stream, half_of(i)) & 0x8008;
+    replace(stream, i, left);
+}
+
 impl<'a> Damaged<'a> {
-    fn new(right: &'a [u8], stream: &[u8]) -> Damaged<'a> {
+    fn new(right: &'a [u8], stream: &[u8], reader: Option<&'a Reader>) -> Damaged<'a> {
         Damaged {
             right,
+            reader,
             stream: stream.to_vec(),
-            is_heavy: [false; ROWS],
+            is_past: [false; ROWS],
         }
     }
 
@@ -46,12 +62,20 @@ impl<'a> Damaged<'a> {
         self.changed(half_of(i)) != 0 || self.changed(half_of(i) + 1) & 0x8008 != 0
     }
 
-    fn touched_in(&self, row: usize) -> usize {
-        (182 * row..182 * row + 182).filter(|&i| self.touched(i)).count()
+    /// Unknown as read. An untouched word is not.
+    fn unknown(&self, reader: &Reader, i: usize) -> bool {
+        let at = half_of(i);
+        reader.word(half_at(&self.stream, at), half_at(&self.stream, at + 1)).is_none()
     }
 
-    fn heavy_rows(&self) -> usize {
-        (0..ROWS).filter(|&row| self.touched_in(row) > 5).count()
+    /// A row's touched bytes twice, but unknown words once where marks count.
+    fn load(&self, row: usize) -> usize {
+        let touched = (182 * row..182 * row + 182).filter(|&i| self.touched(i));
+        touched.map(|i| if self.reader.is_some_and(|reader| self.unknown(reader, i)) { 1 } else { 2 }).sum()
+    }
+
+    fn rows_past(&self) -> usize {
+        (0..ROWS).filter(|&row| self.load(row) > 10).count()
     }
 
     fn flip(&mut self, half: usize, pattern: u16) {
@@ -59,16 +83,18 @@ impl<'a> Damaged<'a> {
         self.stream[2 * half + 1] ^= pattern as u8;
     }
 
-    /// Changes a half word, unless a row that is not to be heavy would be.
+    /// Changes a half word: a bit, any bits, any that the word before is not judged by, or to the word of another place. Not where a row would get past what demand
+    /// 3 allows and is not to.
     fn change(&mut self, random: &mut Random, half: usize) {
-        let pattern = match random.below(3) {
+        let pattern = match random.below(4) {
             0 => 1 << random.below(16),
             1 => 1 + random.below(65_535) as u16,
-            _ => (1 + random.below(65_535) as u16) & !0x8008,
+            2 => (1 + random.below(65_535) as u16) & !0x8008,
+            _ => half_at(&self.stream, half) ^ half_at(self.right, half_of(random.below(BLOCK))),
         };
         self.flip(half, pattern);
         let rows = [row_of(half), half.checked_sub(1).and_then(row_of)];
-        let is_past = rows.into_iter().flatten().any(|r| !self.is_heavy[r] && self.touched_in(r) > 5);
+        let is_past = rows.into_iter().flatten().any(|row| !self.is_past[row] && self.load(row) > 10);
         if is_past {
             self.flip(half, pattern);
         }
@@ -80,46 +106,64 @@ impl<'a> Damaged<'a> {
             self.change(random, half_of(i));
         }
     }
+
+    /// Rows that are past what demand 3 allows, scattered or side by side: all of them just so, each as it comes, or all of them lost.
+    fn change_rows(&mut self, random: &mut Random, count: usize) {
+        if random.below(3) == 0 {
+            let from = random.below(ROWS + 1 - count);
+            self.is_past[from..from + count].fill(true);
+        } else {
+            random.places(ROWS, count).into_iter().for_each(|row| self.is_past[row] = true);
+        }
+        let kind = random.below(3);
+        for row in 0..ROWS {
+            let count = match self.is_past[row] {
+                true => [6, 6 + random.below(400), 800][kind],
+                false => [0, 1, 3, 5, 30][random.below(5)],
+            };
+            self.change_row(random, row, count);
+        }
+    }
+
+    /// Changes may have undone one another, or were too few.
+    fn change_on(&mut self, random: &mut Random) {
+        for row in 0..ROWS {
+            while self.is_past[row] && self.load(row) <= 10 {
+                self.change_row(random, row, 1);
+            }
+        }
+    }
+
+    /// The stream with exactly `count` rows past what demand 3 allows, and with spoiled SYNC Codes.
+    fn scratched(mut self, random: &mut Random, count: usize) -> Vec<u8> {
+        self.change_rows(random, count);
+        self.change_on(random);
+        for _ in 0..random.below(100) {
+            let half = 93 * random.below(417) + random.below(2);
+            self.change(random, half);
+        }
+        self.change_on(random);
+        assert_eq!(self.rows_past(), count);
+        self.stream
+    }
 }
 
 /// Rows with more than 5 touched bytes where one stream became the other.
 pub fn heavy_rows(right: &[u8], stream: &[u8]) -> usize {
-    Damaged::new(right, stream).heavy_rows()
+    Damaged::new(right, stream, None).rows_past()
 }
 
-/// A stream with exactly `heavy` rows of more than 5 touched bytes, scattered or side by side, and with spoiled SYNC Codes.
+/// Rows with 2e + f over 10 likewise.
+pub fn overloaded_rows(reader: &Reader, right: &[u8], stream: &[u8]) -> usize {
+    Damaged::new(right, stream, Some(reader)).rows_past()
+}
+
+/// A stream with so many heavy rows.
 pub fn damage(random: &mut Random, right: &[u8], heavy: usize) -> Vec<u8> {
-    let mut d = Damaged::new(right, right);
-    if random.below(3) == 0 {
-        let from = random.below(ROWS + 1 - heavy);
-        d.is_heavy[from..from + heavy].fill(true);
-    } else {
-        random.places(ROWS, heavy).into_iter().for_each(|r| d.is_heavy[r] = true);
-    }
-    // all heavy rows just so, each as it comes, or all of them lost
-    let kind = random.below(3);
-    for row in 0..ROWS {
-        if d.is_heavy[row] {
-            let count = [6, 6 + random.below(400), 800][kind];
-            d.change_row(random, row, count);
-            while d.touched_in(row) <= 5 {
-                d.change_row(random, row, 1);
-            }
-        } else {
-            let count = [0, 1, 3, 5, 30][random.below(5)];
-            d.change_row(random, row, count);
-        }
-    }
-    for _ in 0..random.below(100) {
-        let half = 93 * random.below(417) + random.below(2);
-        d.change(random, half);
-    }
-    // changes may have undone one another
-    for row in 0..ROWS {
-        while d.is_heavy[row] && d.touched_in(row) <= 5 {
-            d.change_row(random, row, 1);
-        }
-    }
-    assert_eq!(d.heavy_rows(), heavy);
-    d.stream
+    Damaged::new(right, right, None).scratched(random, heavy)
+}
+
+/// A stream with so many overloaded rows. The others have up to ten unknown words.
+pub fn overload(random: &mut Random, reader: &Reader, right: &[u8], overloaded: usize) -> Vec<u8> {
+    Damaged::new(right, right, Some(reader)).scratched(random, overloaded)
 }

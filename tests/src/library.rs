@@ -24,8 +24,8 @@ pub fn column_parity(data: &[u8], out: &mut [u8]) -> u32 {
     unsafe { chamanzil_column_parity(data.as_ptr(), data.len(), out.as_mut_ptr(), out.len()) }
 }
 
-pub fn correct_row(row: &mut [u8]) -> u32 {
-    unsafe { chamanzil_correct_row(row.as_mut_ptr(), row.len()) }
+pub fn correct_row(row: &mut [u8], erasures: &[u8]) -> u32 {
+    unsafe { chamanzil_correct_row(row.as_mut_ptr(), row.len(), erasures.as_ptr(), erasures.len()) }
 }
 
 pub fn correct_column(column: &mut [u8]) -> u32 {
@@ -137,17 +137,17 @@ pub fn close(record: &mut Record, out: &mut [u8]) -> u32 {
     answer
 }
 
-pub fn read_sector(stream: &[u8], out: &mut [u8], report: &mut [u32]) -> u32 {
-    let (to, size) = (out.as_mut_ptr(), out.len());
-    unsafe { chamanzil_read_sector(stream.as_ptr(), stream.len(), to, size, report.as_mut_ptr(), report.len()) }
+pub fn read_sector(stream: &[u8], out: &mut [u8], erasures: &mut [u8], report: &mut [u32]) -> u32 {
+    let (s, o, e, r) = (stream.as_ptr(), out.as_mut_ptr(), erasures.as_mut_ptr(), report.as_mut_ptr());
+    unsafe { chamanzil_read_sector(s, stream.len(), o, out.len(), e, erasures.len(), r, report.len()) }
 }
 
-pub fn repair_block(block: &mut [u8], main: &mut [u8], report: &mut [u32]) -> u32 {
-    let (b, m) = (block.as_mut_ptr(), main.as_mut_ptr());
-    unsafe { chamanzil_repair_block(b, block.len(), m, main.len(), report.as_mut_ptr(), report.len()) }
+pub fn repair_block(block: &mut [u8], erasures: &[u8], main: &mut [u8], report: &mut [u32]) -> u32 {
+    let (b, e, m, r) = (block.as_mut_ptr(), erasures.as_ptr(), main.as_mut_ptr(), report.as_mut_ptr());
+    unsafe { chamanzil_repair_block(b, block.len(), e, erasures.len(), m, main.len(), r, report.len()) }
 }
 
-pub fn read_block(stream: &[u8], block: &mut [u8], main: &mut [u8], report: &mut [u32]) -> u32 {
-    let (s, b, m, r) = (stream.as_ptr(), block.as_mut_ptr(), main.as_mut_ptr(), report.as_mut_ptr());
-    unsafe { chamanzil_read_block(s, stream.len(), b, block.len(), m, main.len(), r, report.len()) }
+pub fn read_block(stream: &[u8], block: &mut [u8], erasures: &mut [u8], main: &mut [u8], report: &mut [u32]) -> u32 {
+    let (s, b, e, m, r) = (stream.as_ptr(), block.as_mut_ptr(), erasures.as_mut_ptr(), main.as_mut_ptr(), report.as_mut_ptr());
+    unsafe { chamanzil_read_block(s, stream.len(), b, block.len(), e, erasures.len(), m, main.len(), r, report.len()) }
 }

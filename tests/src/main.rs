@@ -3,6 +3,7 @@ mod block;
 mod blocks_test;
 mod codes_test;
 mod damage;
+mod erasures_test;
 mod gf;
 mod library;
 mod papers;
@@ -35,6 +36,7 @@ fn round(report: &mut Report, seed: u64) {
     codes_test::field(report, &mut random);
     codes_test::parities(report, &mut random, 2_000);
     codes_test::repairs(report, &mut random, 5_000);
+    codes_test::erasures(report, &mut random, 1_000);
     let (tables, reader) = (Tables::new(), Reader::new());
     blocks_test::maker(report, &mut random, 1_000);
     blocks_test::maker_refusals(report, &mut random);
@@ -49,6 +51,7 @@ fn round(report: &mut Report, seed: u64) {
     writer_test::refusals(report, &mut random, &tables, 20_000);
     session_test::random_sessions(report, &mut random, &tables, 10_000);
     readers_test::all(report, &mut random, &tables, &reader);
+    erasures_test::all(report, &mut random, &tables, &reader);
     runs_test::all(report, &mut random, &tables, &reader);
 }
 

@@ -1,10 +1,10 @@
-//! The sector reader, the block repairer and the whole-block reader of the library against the second implementation.
+//! The sector reader, the block repairer and the whole-block reader of the library against the second implementation. erasures_test.rs has what marks do to them.
 use crate::block::{block, block_of_frames, frame, BLOCK, MAIN};
 use crate::blocks_test::accepted;
-use crate::damage::damage;
+use crate::damage::{damage, overloaded_rows};
 use crate::library;
 use crate::random::Random;
-use crate::reading::{repair_block, Answer, Reader, Tallies};
+use crate::reading::{repair_block, Answer, ReadBlock, Reader, Tallies};
 use crate::report::Report;
 use crate::tables::{Tables, SYNC_END};
 use crate::writing::{permitted_stream, LAID, SECTOR};
@@ -16,6 +16,7 @@ const STREAM: usize = 77_380;
 pub struct Left {
     pub number: u32,
     pub block: Vec<u8>,
+    pub erasures: Vec<u8>,
     pub main: Vec<u8>,
     pub report: Vec<u32>,
 }
@@ -24,27 +25,33 @@ impl Left {
     pub fn told(&self) -> String {
         format!("{} {:?}", self.number, self.report)
     }
+
+    /// These main data and this first number were handed out.
+    pub fn is_handed_out(&self, main: &[u8], first: u32) -> bool {
+        self.number == 0 && self.main == main && self.report[0] == first
+    }
 }
 
 /// Buffers full of random bytes, as a call finds them.
-fn buffers(random: &mut Random, sizes: [usize; 3]) -> Left {
+pub fn buffers(random: &mut Random, sizes: [usize; 4]) -> Left {
     Left {
         number: 0,
         block: random.bytes(sizes[0]),
-        main: random.bytes(sizes[1]),
-        report: (0..sizes[2]).map(|_| random.next() as u32).collect(),
+        erasures: random.bytes(sizes[1]),
+        main: random.bytes(sizes[2]),
+        report: (0..sizes[3]).map(|_| random.next() as u32).collect(),
     }
 }
 
 fn called(stream: &[u8], was: &Left) -> Left {
     let mut left = was.clone();
-    left.number = library::read_block(stream, &mut left.block, &mut left.main, &mut left.report);
+    left.number = library::read_block(stream, &mut left.block, &mut left.erasures, &mut left.main, &mut left.report);
     left
 }
 
-fn called_repairer(was: &Left) -> Left {
+pub fn called_repairer(was: &Left) -> Left {
     let mut left = was.clone();
-    left.number = library::repair_block(&mut left.block, &mut left.main, &mut left.report);
+    left.number = library::repair_block(&mut left.block, &left.erasures, &mut left.main, &mut left.report);
     left
 }
 
@@ -58,52 +65,49 @@ fn numbers(first: u32, t: &Tallies, frame: usize, with_sectors: bool) -> Vec<u32
     all
 }
 
-/// What has to be left, by the answer of the second implementation and its block buffer.
-fn due(answer: &Answer, repaired: Vec<u8>, was: &Left, with_sectors: bool) -> Left {
-    let mut left = was.clone();
-    match answer {
+/// What has to be left, by what the second implementation read.
+fn due(read: &ReadBlock, was: &Left, with_sectors: bool) -> Left {
+    let was = was.clone();
+    let (block, erasures) = (read.bytes.clone(), read.erasures.clone());
+    match &read.answer {
         Answer::HandedOut { main, first, tallies } => {
-            left.main = main.clone();
-            left.report = numbers(*first, tallies, 0, with_sectors);
-            left.block = repaired;
+            let report = numbers(*first, tallies, 0, with_sectors);
+            Left { number: 0, block, erasures, main: main.clone(), report }
         }
         Answer::Refused { number, frame } => {
-            left.number = *number;
-            left.report = numbers(0, &Tallies::default(), *frame, with_sectors);
-            left.block = repaired;
+            let report = numbers(0, &Tallies::default(), *frame, with_sectors);
+            Left { number: *number, block, erasures, report, ..was }
         }
-        Answer::LengthRefused => left.number = 1,
+        Answer::LengthRefused => Left { number: 1, ..was },
+        Answer::ErasureRefused => Left { number: 11, ..was },
     }
-    left
+}
+
+fn is_due(report: &mut Report, ours: &Left, theirs: &Left) {
+    report.check(ours == theirs, || {
+        let buffers = [ours.block == theirs.block, ours.erasures == theirs.erasures, ours.main == theirs.main];
+        format!("{} for {}, buffers {buffers:?}", ours.told(), theirs.told())
+    });
 }
 
 /// The whole-block reader's call and the second implementation's answer, compared. Whatever they are, they have to be the same.
 pub fn compare(report: &mut Report, random: &mut Random, reader: &Reader, stream: &[u8]) -> (Left, Answer) {
-    let was = buffers(random, [BLOCK, MAIN, 8]);
+    let was = buffers(random, [BLOCK, BLOCK, MAIN, 8]);
     let ours = called(stream, &was);
-    let mut buffer = Vec::new();
-    let answer = reader.block(stream, &mut buffer);
-    let theirs = due(&answer, buffer, &was, true);
-    report.check(ours == theirs, || {
-        let buffers = (ours.block == theirs.block, ours.main == theirs.main);
-        format!("{} for {}, buffers {buffers:?}", ours.told(), theirs.told())
-    });
-    (ours, answer)
+    let read = reader.block(stream);
+    is_due(report, &ours, &due(&read, &was, true));
+    (ours, read.answer)
 }
 
-/// The repairer's call on a block, against the second implementation.
-fn compare_repairer(report: &mut Report, random: &mut Random, given: &[u8]) -> (Left, Answer) {
-    let mut was = buffers(random, [0, MAIN, 6]);
-    was.block = given.to_vec();
+/// The repairer's call on a block with marks, against the second implementation.
+pub fn compare_repairer(report: &mut Report, random: &mut Random, given: &[u8], erasures: &[u8]) -> (Left, Answer) {
+    let was = Left { block: given.to_vec(), erasures: erasures.to_vec(), ..buffers(random, [0, 0, MAIN, 6]) };
     let ours = called_repairer(&was);
-    let mut buffer = given.to_vec();
-    let answer = repair_block(&mut buffer);
-    let theirs = due(&answer, buffer, &was, false);
-    report.check(ours == theirs, || {
-        let buffers = (ours.block == theirs.block, ours.main == theirs.main);
-        format!("{} for {}, buffers {buffers:?}", ours.told(), theirs.told())
-    });
-    (ours, answer)
+    let mut bytes = given.to_vec();
+    let answer = repair_block(&mut bytes, erasures);
+    let read = ReadBlock { answer, bytes, erasures: erasures.to_vec() };
+    is_due(report, &ours, &due(&read, &was, false));
+    (ours, read.answer)
 }
 
 // ---- damage
@@ -115,7 +119,7 @@ fn random_stream(random: &mut Random, t: &Tables) -> (Vec<u8>, u32, Vec<u8>) {
     (main, first, stream)
 }
 
-/// Demand 3, by trial: at most 8 heavy rows, and the main data come back.
+/// Demand 3, by trial: at most 8 heavy rows, and the main data come back. By marks no more rows are overloaded than heavy.
 pub fn mended(report: &mut Report, random: &mut Random, t: &Tables, reader: &Reader, count: usize) {
     report.begin("readers: damage with at most 8 heavy rows");
     for i in 0..count {
@@ -123,7 +127,9 @@ pub fn mended(report: &mut Report, random: &mut Random, t: &Tables, reader: &Rea
         let heavy = if i % 2 == 0 { 8 } else { random.below(9) };
         let stream = damage(random, &right, heavy);
         let (ours, _) = compare(report, random, reader, &stream);
-        report.check(ours.number == 0 && ours.main == main && ours.report[0] == first, || ours.told());
+        report.check(ours.is_handed_out(&main, first), || ours.told());
+        let overloaded = overloaded_rows(reader, &right, &stream);
+        report.check(overloaded <= heavy, || format!("{overloaded} overloaded rows, {heavy} heavy ones"));
     }
     report.end();
 }
@@ -146,8 +152,8 @@ pub fn undamaged(report: &mut Report, random: &mut Random, t: &Tables, reader: &
     for _ in 0..count {
         let (main, first, stream) = random_stream(random, t);
         let (ours, _) = compare(report, random, reader, &stream);
-        let clean = ours.report == [first, 0, 0, 0, 0, 0, 0, 0];
-        report.check(ours.number == 0 && ours.main == main && clean, || ours.told());
+        let is_clean = ours.report[1..] == [0; 7] && ours.erasures.iter().all(|&mark| mark == 0);
+        report.check(ours.is_handed_out(&main, first) && is_clean, || ours.told());
     }
     report.end();
 }
@@ -194,7 +200,7 @@ fn spoiled_frame(random: &mut Random, main: &[u8], info: u8, number: u32, kind: 
 }
 
 /// A block whose first bad frame is k, bad as `kind` says, and its refusal. A second bad frame may come after.
-fn bad_block(random: &mut Random, k: usize, kind: usize) -> (Vec<u8>, u32) {
+pub fn bad_block(random: &mut Random, k: usize, kind: usize) -> (Vec<u8>, u32) {
     let main = random.bytes(MAIN);
     let (first, info) = accepted(random);
     let part = |k: usize| &main[2048 * k..2048 * k + 2048];
@@ -208,24 +214,26 @@ fn bad_block(random: &mut Random, k: usize, kind: usize) -> (Vec<u8>, u32) {
     (block_of_frames(&frames), number)
 }
 
-/// Refusals 4, 5 and 6 at every frame from 1 on: of the repairer on a block of code words, and of the whole-block reader on a damaged stream of it.
+/// Refusals 4, 5 and 6 at every frame from 1 on: of the repairer on a block of code words, with none to ten marks a row, and of the whole-block reader on a damaged
+/// stream of it.
 pub fn frame_refusals(report: &mut Report, random: &mut Random, t: &Tables, reader: &Reader) {
     report.begin("readers: refusals 4, 5 and 6");
     for (k, kind) in (1..16).flat_map(|k| (0..7).map(move |kind| (k, kind))) {
         let (made, number) = bad_block(random, k, kind);
         let refused = Answer::Refused { number, frame: k };
-        let is_due = |ours: &Left| {
+        let is_told = |ours: &Left| {
             let (frame, before) = ours.report.split_last().unwrap();
             ours.number == number && *frame == k as u32 && before.iter().all(|&n| n == 0)
         };
-        let (ours, theirs) = compare_repairer(report, random, &made);
+        let erasures = few_erasures(random, [0, 10][k % 2]);
+        let (ours, theirs) = compare_repairer(report, random, &made, &erasures);
         let is_same = ours.block == made;
-        report.check(theirs == refused && is_due(&ours) && is_same, || format!("frame {k} kind {kind}: {}", ours.told()));
+        report.check(theirs == refused && is_told(&ours) && is_same, || format!("frame {k} kind {kind}: {}", ours.told()));
         let right = permitted_stream(t, &made, random).unwrap();
         let stream = damage(random, &right, 8);
         let (ours, theirs) = compare(report, random, reader, &stream);
         let is_same = data_columns(&ours.block) == data_columns(&made);
-        report.check(theirs == refused && is_due(&ours) && is_same, || {
+        report.check(theirs == refused && is_told(&ours) && is_same, || {
             format!("frame {k} kind {kind}, damaged: {}", ours.told())
         });
     }
@@ -241,7 +249,7 @@ pub fn refusals_at_zero(report: &mut Report, random: &mut Random, t: &Tables, re
         let is_allowed = bit & 0x2D != 0;
         let (first, info) = if is_allowed { (first + 1 + random.below(15) as u32, info) } else { (first, info | bit) };
         let made = block(&main, first, info);
-        let (ours, theirs) = compare_repairer(report, random, &made);
+        let (ours, theirs) = compare_repairer(report, random, &made, &[0; BLOCK]);
         let refused = Answer::Refused { number: 5, frame: 0 };
         report.check(theirs == refused && ours.number == 5 && ours.report == [0; 6] && ours.block == made, || ours.told());
         let right = permitted_stream(t, &made, random).unwrap();
@@ -256,12 +264,36 @@ fn data_columns(block: &[u8]) -> Vec<u8> {
     block.chunks(182).flat_map(|r| r[..172].to_vec()).collect()
 }
 
-/// Blocks damaged as bytes, far and near, and blocks of random bytes.
+/// At most so many marks in each row.
+pub fn few_erasures(random: &mut Random, most: usize) -> Vec<u8> {
+    let mut erasures = vec![0; BLOCK];
+    for row in erasures.chunks_mut(182) {
+        let count = random.below(most + 1);
+        random.places(182, count).into_iter().for_each(|at| row[at] = 1);
+    }
+    erasures
+}
+
+/// Marks for a block of which some bytes are wrong: none, all, at most ten or thirteen a row, each by chance, some of the wrong bytes, or all of these.
+fn any_erasures(random: &mut Random, kind: usize, is_wrong: impl Fn(usize) -> bool) -> Vec<u8> {
+    match kind {
+        0 => vec![0; BLOCK],
+        1 => vec![1; BLOCK],
+        2 => few_erasures(random, 10),
+        3 => few_erasures(random, 13),
+        4 => (0..BLOCK).map(|_| random.below(2) as u8).collect(),
+        5 => (0..BLOCK).map(|at| u8::from(is_wrong(at) && random.below(4) > 0)).collect(),
+        _ => (0..BLOCK).map(|at| u8::from(is_wrong(at))).collect(),
+    }
+}
+
+/// Blocks damaged as bytes, far and near, and blocks of random bytes, with marks of each kind.
 pub fn repairer(report: &mut Report, random: &mut Random, count: usize) {
     report.begin("readers: the repairer on damaged blocks");
     for i in 0..count {
         let (first, info) = accepted(random);
-        let mut given = block(&random.bytes(MAIN), first, info);
+        let made = block(&random.bytes(MAIN), first, info);
+        let mut given = made.clone();
         let wrong = random.below(2_000);
         for _ in 0..wrong {
             given[random.below(BLOCK)] ^= random.byte();
@@ -269,13 +301,14 @@ pub fn repairer(report: &mut Report, random: &mut Random, count: usize) {
         if i % 10 == 0 {
             given = random.bytes(BLOCK);
         }
-        compare_repairer(report, random, &given);
+        let erasures = any_erasures(random, i % 7, |at| given[at] != made[at]);
+        compare_repairer(report, random, &given, &erasures);
     }
     report.end();
 }
 
 /// The stated sizes with one of them another.
-fn other_sizes<const N: usize>(stated: [usize; N]) -> Vec<[usize; N]> {
+pub fn other_sizes<const N: usize>(stated: [usize; N]) -> Vec<[usize; N]> {
     let mut all = Vec::new();
     for k in 0..N {
         for n in [stated[k] - 1, stated[k] + 1, 0, 2 * stated[k]] {
@@ -290,25 +323,22 @@ fn other_sizes<const N: usize>(stated: [usize; N]) -> Vec<[usize; N]> {
 pub fn lengths(report: &mut Report, random: &mut Random, t: &Tables) {
     report.begin("readers: other lengths");
     let (_, _, stream) = random_stream(random, t);
-    for [n, b, m, r] in other_sizes([STREAM, BLOCK, MAIN, 8]) {
+    for [n, b, e, m, r] in other_sizes([STREAM, BLOCK, BLOCK, MAIN, 8]) {
         let given: Vec<u8> = stream.iter().cycle().take(n).copied().collect();
-        let mut was = buffers(random, [b, m, r]);
+        let was = buffers(random, [b, e, m, r]);
         let ours = called(&given, &was);
-        was.number = 1;
-        report.check(ours == was, || format!("read_block {n} {b} {m} {r}: {}", ours.told()));
+        report.check(ours == Left { number: 1, ..was }, || format!("read_block {n} {b} {e} {m} {r}: {}", ours.told()));
     }
-    for sizes in other_sizes([BLOCK, MAIN, 6]) {
-        let mut was = buffers(random, sizes);
+    for sizes in other_sizes([BLOCK, BLOCK, MAIN, 6]) {
+        let was = buffers(random, sizes);
         let ours = called_repairer(&was);
-        was.number = 1;
-        report.check(ours == was, || format!("repair_block {sizes:?}: {}", ours.told()));
+        report.check(ours == Left { number: 1, ..was }, || format!("repair_block {sizes:?}: {}", ours.told()));
     }
-    for [n, m, r] in other_sizes([LAID + 2, SECTOR, 2]) {
-        let mut was = buffers(random, [m, 0, r]);
+    for [n, b, e, r] in other_sizes([LAID + 2, SECTOR, SECTOR, 2]) {
+        let was = buffers(random, [b, e, 0, r]);
         let mut ours = was.clone();
-        ours.number = library::read_sector(&stream[..n], &mut ours.block, &mut ours.report);
-        was.number = 1;
-        report.check(ours == was, || format!("read_sector {n} {m} {r}: {}", ours.told()));
+        ours.number = library::read_sector(&stream[..n], &mut ours.block, &mut ours.erasures, &mut ours.report);
+        report.check(ours == Left { number: 1, ..was }, || format!("read_sector {n} {b} {e} {r}: {}", ours.told()));
     }
     report.end();
 }
@@ -321,44 +351,62 @@ fn spoil_half(random: &mut Random, stream: &mut [u8], half: usize) {
     stream[2 * half + 1] ^= pattern as u8;
 }
 
-/// Sectors with spoiled words and SYNC Codes: another code's, one of the wrong class, one bit, a random half word.
-pub fn sectors(report: &mut Report, random: &mut Random, t: &Tables, reader: &Reader, count: usize) {
-    report.begin("readers: damaged sectors");
-    let (_, _, whole) = random_stream(random, t);
-    let (mut all_unknown, mut all_spoiled) = (0, 0);
-    for _ in 0..count {
-        let s = random.below(16);
-        let mut stream = whole[LAID * s..LAID * s + LAID + 2].to_vec();
-        for _ in 0..random.below(40) {
-            let half = random.below(2_419);
-            spoil_half(random, &mut stream, half);
-        }
-        for _ in 0..random.below(12) {
-            let f = random.below(26);
-            let at = 186 * f;
-            match random.below(4) {
-                0 => spoil_half(random, &mut stream, 93 * f),
-                1 => spoil_half(random, &mut stream, 93 * f + 1),
-                2 => {
-                    let bit = random.below(32);
-                    stream[at + bit / 8] ^= 0x80 >> (bit % 8);
-                }
-                _ => {
-                    let code = t.sync[random.below(2)][random.below(8)][random.below(2)];
-                    stream[at..at + 2].copy_from_slice(&code.to_be_bytes());
-                }
+/// Spoiled words and SYNC Codes: another code's, one of the wrong class, one bit, a random half word.
+fn spoil_sector(random: &mut Random, t: &Tables, stream: &mut [u8]) {
+    for _ in 0..random.below(40) {
+        let half = random.below(2_419);
+        spoil_half(random, stream, half);
+    }
+    for _ in 0..random.below(12) {
+        let f = random.below(26);
+        let at = 186 * f;
+        match random.below(4) {
+            0 => spoil_half(random, stream, 93 * f),
+            1 => spoil_half(random, stream, 93 * f + 1),
+            2 => {
+                let bit = random.below(32);
+                stream[at + bit / 8] ^= 0x80 >> (bit % 8);
+            }
+            _ => {
+                let code = t.sync[random.below(2)][random.below(8)][random.below(2)];
+                stream[at..at + 2].copy_from_slice(&code.to_be_bytes());
             }
         }
-        let mut out = random.bytes(SECTOR);
-        let mut tallies = [random.next() as u32, random.next() as u32];
-        let answer = library::read_sector(&stream, &mut out, &mut tallies);
-        let theirs = reader.sector(&stream);
-        let same = tallies == [theirs.unknown, theirs.spoiled] && out == theirs.bytes;
-        report.check(answer == 0 && same, || format!("{answer} {tallies:?} for {} {}", theirs.unknown, theirs.spoiled));
-        all_unknown += theirs.unknown;
-        all_spoiled += theirs.spoiled;
     }
-    report.check(all_unknown > 0 && all_spoiled > 0, || "no damage showed".into());
+}
+
+/// A sector by both: bytes, marks and tallies, of which the first is the number of the marks. The tallies.
+fn compare_sector(report: &mut Report, random: &mut Random, reader: &Reader, stream: &[u8]) -> [u32; 2] {
+    let mut ours = buffers(random, [SECTOR, SECTOR, 0, 2]);
+    ours.number = library::read_sector(stream, &mut ours.block, &mut ours.erasures, &mut ours.report);
+    let theirs = reader.sector(stream);
+    let tallies = [theirs.unknown, theirs.spoiled];
+    let is_same = ours.report == tallies && ours.block == theirs.bytes && ours.erasures == theirs.erasures;
+    report.check(ours.number == 0 && is_same, || format!("{} for {tallies:?}", ours.told()));
+    let marked = ours.erasures.iter().map(|&mark| u32::from(mark)).sum::<u32>();
+    report.check(marked == ours.report[0] && ours.erasures.iter().all(|&mark| mark <= 1), || format!("{marked} marks: {}", ours.told()));
+    tallies
+}
+
+/// Sectors as written, spoiled, and of random bytes.
+pub fn sectors(report: &mut Report, random: &mut Random, t: &Tables, reader: &Reader, count: usize) {
+    report.begin("readers: clean, damaged and random sectors");
+    let (_, _, whole) = random_stream(random, t);
+    let mut all = [0; 2];
+    for i in 0..count {
+        let s = random.below(16);
+        let right = &whole[LAID * s..LAID * s + LAID + 2];
+        let clean = compare_sector(report, random, reader, right);
+        report.check(clean == [0; 2], || format!("clean: {clean:?}"));
+        let mut stream = right.to_vec();
+        spoil_sector(random, t, &mut stream);
+        if i % 10 == 0 {
+            stream = random.bytes(LAID + 2);
+        }
+        let tallies = compare_sector(report, random, reader, &stream);
+        all = [all[0] + tallies[0], all[1] + tallies[1]];
+    }
+    report.check(all[0] > 0 && all[1] > 0, || "no damage showed".into());
     report.end();
 }
 
@@ -400,6 +448,6 @@ pub fn all(report: &mut Report, random: &mut Random, t: &Tables, reader: &Reader
     nine_heavy(report, random, t, reader, 100);
     frame_refusals(report, random, t, reader);
     refusals_at_zero(report, random, t, reader);
-    repairer(report, random, 50);
+    repairer(report, random, 140);
     lengths(report, random, t);
 }

@@ -1,4 +1,5 @@
-//! Reading a word, a sector and a block, and the repair, the second implementation (document 01, 'Reading a word, and the repair').
+//! Reading a word, a sector and a block, and the repair, the second implementation (document 01, 'Reading a word, and the repair'; document 02, request 2, for the
+//! marks of unknown words).
 use crate::block::{edc, ied, recorded, scramble};
 use crate::rs::{Code, Fate};
 use crate::tables::{sync_numbers, Tables, SYNC_END};
@@ -12,6 +13,8 @@ pub struct Reader {
 
 pub struct ReadSector {
     pub bytes: Vec<u8>,
+    /// 1 for an unknown word, else 0.
+    pub erasures: Vec<u8>,
     pub unknown: u32,
     pub spoiled: u32,
 }
@@ -30,6 +33,15 @@ pub enum Answer {
     HandedOut { main: Vec<u8>, first: u32, tallies: Tallies },
     Refused { number: u32, frame: usize },
     LengthRefused,
+    /// Number 11, which only the repairer has: the marks that a sector is read to are 0 or 1.
+    ErasureRefused,
+}
+
+/// What the repairer or the whole-block reader answers, and the block and its marks after it, empty where a length is refused.
+pub struct ReadBlock {
+    pub answer: Answer,
+    pub bytes: Vec<u8>,
+    pub erasures: Vec<u8>,
 }
 
 impl Reader {
@@ -81,6 +93,7 @@ impl Reader {
         let half = |i: usize| u16::from_be_bytes([stream[2 * i], stream[2 * i + 1]]);
         let mut read = ReadSector {
             bytes: Vec::new(),
+            erasures: Vec::new(),
             unknown: 0,
             spoiled: 0,
         };
@@ -90,31 +103,33 @@ impl Reader {
             for i in at + 2..at + 93 {
                 let byte = self.word(half(i), half(i + 1));
                 read.unknown += u32::from(byte.is_none());
+                read.erasures.push(u8::from(byte.is_none()));
                 read.bytes.push(byte.unwrap_or(0));
             }
         }
         read
     }
 
-    /// A whole block's stream; the block buffer is left as the repairer leaves it.
-    pub fn block(&self, stream: &[u8], buffer: &mut Vec<u8>) -> Answer {
+    /// A whole block's stream: its sectors, then the repairer with their marks.
+    pub fn block(&self, stream: &[u8]) -> ReadBlock {
+        let (mut bytes, mut erasures) = (Vec::new(), Vec::new());
         if stream.len() != 77_380 {
-            return Answer::LengthRefused;
+            return ReadBlock { answer: Answer::LengthRefused, bytes, erasures };
         }
-        buffer.clear();
         let (mut unknown, mut spoiled) = (0, 0);
         for s in 0..16 {
             let read = self.sector(&stream[4836 * s..4836 * s + 4838]);
-            buffer.extend(read.bytes);
+            bytes.extend(read.bytes);
+            erasures.extend(read.erasures);
             unknown += read.unknown;
             spoiled += read.spoiled;
         }
-        let mut answer = repair_block(buffer);
+        let mut answer = repair_block(&mut bytes, &erasures);
         if let Answer::HandedOut { tallies, .. } = &mut answer {
             tallies.unknown = unknown;
             tallies.spoiled = spoiled;
         }
-        answer
+        ReadBlock { answer, bytes, erasures }
     }
 }
 
@@ -126,12 +141,15 @@ fn tally(counts: &mut [u32; 2], fate: Fate) {
     }
 }
 
-/// Rows, then columns 0 to 171, then the checks of the frames.
-pub fn repair_block(buffer: &mut [u8]) -> Answer {
+/// Rows with their marks, then columns 0 to 171, then the checks of the frames.
+pub fn repair_block(buffer: &mut [u8], erasures: &[u8]) -> Answer {
+    if erasures.iter().any(|&mark| mark > 1) {
+        return Answer::ErasureRefused;
+    }
     let mut tallies = Tallies::default();
     let (rows, columns) = (Code::row(), Code::column());
-    for row in buffer.chunks_mut(182) {
-        tally(&mut tallies.rows, rows.repair(row));
+    for (row, marks) in buffer.chunks_mut(182).zip(erasures.chunks(182)) {
+        tally(&mut tallies.rows, rows.repair_erased(row, marks));
     }
     for j in 0..172 {
         let place = |i: usize| 182 * recorded(i) + j;
@@ -181,6 +199,7 @@ fn checked(buffer: &[u8], tallies: Tallies) -> Answer {
 pub fn sheet(answer: &Answer) -> String {
     match answer {
         Answer::LengthRefused => "refused 1".to_string(),
+        Answer::ErasureRefused => "refused 11".to_string(),
         Answer::Refused { number, frame } => format!("refused {number} frame {frame}"),
         Answer::HandedOut { first, tallies, .. } => {
             let ([rc, rp], [cc, cp]) = (tallies.rows, tallies.columns);

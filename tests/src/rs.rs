@@ -1,5 +1,6 @@
-//! Reed-Solomon codes with roots alpha^0 .. alpha^(p-1), the second implementation: encoder by shift register, decoder by Berlekamp-Massey, Chien and Forney.
-//! A word is a polynomial, first byte highest. Lists of coefficients of polynomials other than words run from the lowest power up.
+//! Reed-Solomon codes with roots alpha^0 .. alpha^(p-1), the second implementation: encoder by shift register, decoder by Berlekamp-Massey, Chien and Forney,
+//! begun at the marked places where there are any. A word is a polynomial, first byte highest. Lists of coefficients of polynomials other than words run from the
+//! lowest power up. Marks are bytes beside the word's, 1 or 0.
 use crate::gf::Field;
 use crate::random::Random;
 
@@ -13,7 +14,7 @@ pub struct Code {
     generator: Vec<u8>,
 }
 
-/// What document 01's rule makes of a word.
+/// What the rule of document 01, or with marks that of document 02, makes of a word.
 #[derive(Debug, PartialEq, Eq, Clone, Copy)]
 pub enum Fate {
     Unchanged,
@@ -83,9 +84,25 @@ impl Code {
 
     /// The one code word within the radius, if there is one. Soundness is tested here by the rule itself, not by the decoder.
     pub fn nearest(&self, word: &[u8]) -> Option<Vec<u8>> {
-        let near = self.decoded(word)?;
+        let near = self.decoded(word, &[])?;
         let changed = distance(&near, word);
         if self.is_code(&near) && changed <= self.radius {
+            Some(near)
+        } else {
+            None
+        }
+    }
+
+    /// The one code word that differs from the word in e unmarked bytes with 2e + f at most the number of roots, f all the marks, if there is one (document 02,
+    /// request 2). The rule itself is the test here too.
+    pub fn nearest_erased(&self, word: &[u8], erasures: &[u8]) -> Option<Vec<u8>> {
+        let marked: Vec<usize> = (0..word.len()).filter(|&at| erasures[at] == 1).collect();
+        if marked.len() > self.roots {
+            return None;
+        }
+        let near = self.decoded(word, &marked)?;
+        let wrong = (0..word.len()).filter(|&at| erasures[at] == 0 && near[at] != word[at]).count();
+        if self.is_code(&near) && 2 * wrong + marked.len() <= self.roots {
             Some(near)
         } else {
             None
@@ -96,20 +113,25 @@ impl Code {
         if self.is_code(word) {
             return Fate::Unchanged;
         }
-        match self.nearest(word) {
-            Some(near) => {
-                word.copy_from_slice(&near);
-                Fate::Changed
-            }
-            None => Fate::PastHelp,
-        }
+        become_code_word(word, self.nearest(word))
     }
 
-    fn decoded(&self, word: &[u8]) -> Option<Vec<u8>> {
+    /// A code word stays, but with more marks than roots it is past help as any other.
+    pub fn repair_erased(&self, word: &mut [u8], erasures: &[u8]) -> Fate {
+        let marked = erasures.iter().filter(|&&mark| mark == 1).count();
+        if marked <= self.roots && self.is_code(word) {
+            return Fate::Unchanged;
+        }
+        become_code_word(word, self.nearest_erased(word, erasures))
+    }
+
+    /// The word with other bytes at the marked places and at as few others as the syndromes ask for.
+    fn decoded(&self, word: &[u8], marked: &[usize]) -> Option<Vec<u8>> {
         let s = self.syndromes(word);
-        let locator = self.berlekamp_massey(&s);
-        let errors = locator.len() - 1;
-        if errors > self.radius {
+        let locator = self.berlekamp_massey(&s, self.erasure_locator(marked));
+        let places = locator.len() - 1;
+        // 2e + f, where e of the places are not marked
+        if 2 * places - marked.len() > self.roots {
             return None;
         }
         let evaluator = self.evaluator(&s, &locator);
@@ -123,19 +145,29 @@ impl Code {
                 found += 1;
             }
         }
-        if found == errors {
+        if found == places {
             Some(mended)
         } else {
             None
         }
     }
 
-    /// The shortest register that makes the syndromes: Massey 1969. The first coefficient is 1 and the last is not 0.
-    fn berlekamp_massey(&self, s: &[u8]) -> Vec<u8> {
+    /// The product of 1 + Xx over the locators X of the marked places, which is that of x + X read backwards.
+    fn erasure_locator(&self, marked: &[usize]) -> Vec<u8> {
         let f = &self.field;
-        let (mut now, mut before) = (vec![1u8], vec![1u8]);
-        let (mut length, mut gap, mut last) = (0, 1, 1u8);
-        for n in 0..s.len() {
+        let mut product = marked.iter().fold(vec![1], |product, at| times_linear(f, &product, f.alpha(self.length - 1 - at)));
+        product.reverse();
+        product
+    }
+
+    /// The shortest register that makes the syndromes and has the marked places among its roots: Massey 1969, begun at their locator as in Blahut 1983. The first
+    /// coefficient is 1.
+    fn berlekamp_massey(&self, s: &[u8], erased: Vec<u8>) -> Vec<u8> {
+        let f = &self.field;
+        let marked = erased.len() - 1;
+        let (mut now, mut before) = (erased.clone(), erased);
+        let (mut length, mut gap, mut last) = (marked, 1, 1u8);
+        for n in marked..s.len() {
             let tail = (1..now.len()).filter(|&i| i <= n);
             let off = tail.fold(s[n], |d, i| d ^ f.mul(now[i], s[n - i]));
             if off == 0 {
@@ -148,8 +180,8 @@ impl Code {
             for (i, &b) in before.iter().enumerate() {
                 now[i + gap] ^= f.mul(factor, b);
             }
-            if 2 * length <= n {
-                length = n + 1 - length;
+            if 2 * length <= n + marked {
+                length = n + 1 + marked - length;
                 before = old;
                 last = off;
                 gap = 1;
@@ -233,6 +265,17 @@ fn solve(f: &Field, rows: &mut [Vec<u8>]) {
                 *v ^= f.mul(factor, t);
             }
         }
+    }
+}
+
+/// The word becomes the code word near it, or stays.
+fn become_code_word(word: &mut [u8], near: Option<Vec<u8>>) -> Fate {
+    match near {
+        Some(near) => {
+            word.copy_from_slice(&near);
+            Fate::Changed
+        }
+        None => Fate::PastHelp,
     }
 }
 

@@ -95,9 +95,9 @@ pub fn written(report: &mut Report, random: &mut Random, t: &Tables, lengths: im
         run.by_library(report, || true);
         run.by_library(report, || random.coin());
         for (k, input) in run.inputs.iter().enumerate() {
-            let (mut block, mut main, mut numbers) = (vec![0; BLOCK], vec![0; MAIN], [9; 8]);
-            let answer = library::read_block(part(&run.stream, k), &mut block, &mut main, &mut numbers);
-            let is_clean = numbers == [input.first, 0, 0, 0, 0, 0, 0, 0];
+            let (mut block, mut erasures, mut main, mut numbers) = (vec![0; BLOCK], vec![9; BLOCK], vec![0; MAIN], [9; 8]);
+            let answer = library::read_block(part(&run.stream, k), &mut block, &mut erasures, &mut main, &mut numbers);
+            let is_clean = numbers == [input.first, 0, 0, 0, 0, 0, 0, 0] && erasures.iter().all(|&mark| mark == 0);
             report.check(answer == 0 && main == input.main && is_clean, || format!("block {k} of {count}: {answer} {numbers:?}"));
         }
     }
@@ -185,9 +185,9 @@ impl Chosen {
 
 /// Whether a block was read to its input, with at most so many rows changed, unknown words and spoiled SYNC Codes, and nothing else to tell.
 fn is_read(ours: &Left, input: &Input, most: u32) -> bool {
-    let [first, changed, past_help, columns, columns_past_help, unknown, spoiled, frame] = ours.report[..] else { return false };
+    let [_, changed, past_help, columns, columns_past_help, unknown, spoiled, frame] = ours.report[..] else { return false };
     let is_quiet = [past_help, columns, columns_past_help, frame] == [0; 4] && changed.max(unknown).max(spoiled) <= most;
-    ours.number == 0 && ours.main == input.main && first == input.first && is_quiet
+    ours.is_handed_out(&input.main, input.first) && is_quiet
 }
 
 /// The zero runs of each block with the four bytes after it, by both, and those of the whole run, which hold just when all of these do.
@@ -231,7 +231,7 @@ fn one_other(report: &mut Report, random: &mut Random, reader: &Reader, run: &Ch
     stream[BLOCK_LAID * k..][..bytes.len()].copy_from_slice(bytes);
     for (j, input) in run.inputs.iter().enumerate() {
         let (ours, _) = compare(report, random, reader, part(&stream, j));
-        let is_back = ours.number == 0 && ours.main == input.main && ours.report[0] == input.first;
+        let is_back = ours.is_handed_out(&input.main, input.first);
         let is_due = match j.abs_diff(k) {
             0 => is_back == is_mended && (is_back || (4..=6).contains(&ours.number)),
             1 => is_read(&ours, input, 1),
@@ -256,15 +256,17 @@ pub fn one_damaged(report: &mut Report, random: &mut Random, t: &Tables, reader:
     report.end();
 }
 
-/// The last sector of block k as the library reads it: every byte but the last is right, the last one too unless bit 15 or 3 of the half word after it changed,
-/// and no SYNC place is lost, since the code after a block is not its own. Whether the last byte changed.
+/// The last sector of block k as the library reads it: every byte but the last is right and unmarked, the last one too unless bit 15 or 3 of the half word after it
+/// changed, and no SYNC place is lost, since the code after a block is not its own. Whether the last byte changed.
 fn last_sector(report: &mut Report, run: &Chosen, stream: &[u8], k: usize, pattern: u32) -> bool {
-    let (mut bytes, mut tallies) = (vec![0xA5; SECTOR], [9; 2]);
-    let answer = library::read_sector(&part(stream, k)[15 * LAID..][..LAID + 2], &mut bytes, &mut tallies);
+    let (mut bytes, mut erasures, mut tallies) = (vec![0xA5; SECTOR], vec![0xA5; SECTOR], [9; 2]);
+    let answer = library::read_sector(&part(stream, k)[15 * LAID..][..LAID + 2], &mut bytes, &mut erasures, &mut tallies);
     let (last, before) = bytes.split_last().unwrap();
+    let (mark, marks_before) = erasures.split_last().unwrap();
     let (right, all) = run.blocks[BLOCK * k + 15 * SECTOR..][..SECTOR].split_last().unwrap();
     let is_touched = pattern >> 16 & 0x8008 != 0;
-    let is_due = before == all && (is_touched || last == right) && tallies[1] == 0;
+    let is_marked_so = marks_before.iter().all(|&mark| mark == 0) && tallies == [u32::from(*mark), 0];
+    let is_due = before == all && (is_touched || (last == right && *mark == 0)) && is_marked_so;
     report.check(answer == 0 && is_due, || format!("block {k}, code after it by {pattern:08X}: {answer} {tallies:?}"));
     last != right
 }
@@ -313,7 +315,7 @@ fn damaged_vector(report: &mut Report, random: &mut Random, reader: &Reader) {
     let (inputs, stream) = (vectors_test::run_inputs(), vectors_test::load("run/run.damaged"));
     for (k, input) in inputs.iter().enumerate() {
         let (ours, _) = compare(report, random, reader, part(&stream, k));
-        let is_back = ours.number == 0 && ours.main == input.main && ours.report[0] == input.first;
+        let is_back = ours.is_handed_out(&input.main, input.first);
         report.check(is_back == (k != 1), || format!("block {k}: {}", ours.told()));
     }
     report.end();

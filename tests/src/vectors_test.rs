@@ -1,8 +1,10 @@
 //! The second implementation against the project's vectors, which a third hand made.
 use crate::block::{block, BLOCK, MAIN};
-use crate::damage::heavy_rows;
+use crate::damage::{heavy_rows, overloaded_rows};
+use crate::library;
 use crate::reading::{sheet, zero_runs_hold, Answer, Reader};
 use crate::report::Report;
+use crate::rs::{Code, Fate};
 use crate::run::{blocks_of, part, Input};
 use crate::tables::Tables;
 use crate::writing::{close, permitted_stream, write_run, write_sector, Follow, FrameTrace, Record};
@@ -47,7 +49,7 @@ fn blocks(report: &mut Report, t: &Tables, reader: &Reader) {
             let again = permitted_stream(t, &made, &mut Follow { stream: &s, at: 0 });
             report.check(again == Some(s.clone()), || format!("{kind} is not permitted"));
             report.check(zero_runs_hold(&s), || format!("zero runs of {kind}"));
-            let line = sheet(&reader.block(&s, &mut Vec::new()));
+            let line = sheet(&reader.block(&s).answer);
             let clean = format!("block {first:06X} rows 0 0 columns 0 0 unknown 0 sync 0");
             report.check(line == clean, || format!("{kind}: {line}"));
         }
@@ -116,13 +118,51 @@ fn trial14(report: &mut Report, t: &Tables) {
     report.end();
 }
 
+/// The bytes of a line of hexadecimal digits.
+fn bytes(digits: &str) -> Vec<u8> {
+    digits.as_bytes().chunks(2).map(|pair| u8::from_str_radix(std::str::from_utf8(pair).unwrap(), 16).unwrap()).collect()
+}
+
+/// Rows with marks, by the second decoder and by the library: the row, the marked places, what becomes of it, and the row after.
+fn rows(report: &mut Report) {
+    report.begin("vectors: rows with marks");
+    let (code, list) = (Code::row(), text("rows.txt"));
+    for line in list.lines() {
+        let words: Vec<&str> = line.split(' ').collect();
+        let [row, places, fate, after] = words[..] else { panic!("{line}") };
+        let (row, after) = (bytes(row), bytes(after));
+        let mut erasures = [0; 182];
+        places.split(',').filter(|place| *place != "-").for_each(|place| erasures[place.parse::<usize>().unwrap()] = 1);
+        let due = match fate {
+            "clean" => Fate::Unchanged,
+            "changed" => Fate::Changed,
+            "past" => Fate::PastHelp,
+            other => panic!("{other}"),
+        };
+        let (mut ours, mut theirs) = (row.clone(), row);
+        let fate = code.repair_erased(&mut theirs, &erasures);
+        report.check(fate == due && theirs == after, || format!("{line}: {fate:?}"));
+        let answer = library::correct_row(&mut ours, &erasures);
+        report.check(answer == library::fate_number(due) && ours == after, || format!("{line}: {answer}"));
+    }
+    report.check(list.lines().count() == 65, || "65 rows".into());
+    report.end();
+}
+
+/// Streams with flipped bits. The sheets are those of document 02's vectors, with marks: of the earlier streams these changed the line of burst20000, whose rows of
+/// nearly all unknown words are near the row of zeros. The later ones were made of b1's stream for the number of their rows with 2e + f over 10.
 fn damaged(report: &mut Report, reader: &Reader) {
     report.begin("vectors: damaged");
     for line in text("damaged/sheets.tsv").lines() {
         let (name, due) = line.split_once('\t').unwrap();
         let stream = load(&format!("damaged/{name}.stream"));
-        let ours = sheet(&reader.block(&stream, &mut Vec::new()));
+        let ours = sheet(&reader.block(&stream).answer);
         report.check(ours == due, || format!("{name}: {ours} for {due}"));
+    }
+    let right = load("b1.stream");
+    for (name, due) in [("tenunknown", 0), ("limit", 8), ("eight", 8), ("nine", 9)] {
+        let overloaded = overloaded_rows(reader, &right, &load(&format!("damaged/{name}.stream")));
+        report.check(overloaded == due, || format!("{name}: {overloaded} overloaded rows"));
     }
     report.end();
 }
@@ -197,8 +237,7 @@ fn run_permitted(report: &mut Report, t: &Tables) {
     report.end();
 }
 
-/// Every block of the run's streams. The sheets were made with marks (request 2), which change none of these lines. A damaged block with at most 8 heavy rows has
-/// to read to its main data whatever its line says.
+/// Every block of the run's streams, with the sector readers' marks. A damaged block with at most 8 heavy rows has to read to its main data whatever its line says.
 fn run_read(report: &mut Report, reader: &Reader) {
     report.begin("vectors: the run, read");
     let (inputs, right) = (run_inputs(), load("run/run.stream"));
@@ -207,7 +246,7 @@ fn run_read(report: &mut Report, reader: &Reader) {
         let words: Vec<&str> = line.split('\t').collect();
         let [name, k, due] = words[..] else { panic!("{line}") };
         let (stream, k) = (load(&format!("run/{name}")), k.parse::<usize>().unwrap());
-        let answer = reader.block(part(&stream, k), &mut Vec::new());
+        let answer = reader.block(part(&stream, k)).answer;
         let ours = sheet(&answer);
         report.check(ours == due, || format!("{name} {k}: {ours} for {due}"));
         let is_light = name != "run.damaged" || heavy_rows(part(&right, k), part(&stream, k)) <= 8;
@@ -224,6 +263,7 @@ pub fn all(report: &mut Report) {
     blocks(report, &t, &reader);
     far_out(report, &t);
     trial14(report, &t);
+    rows(report);
     damaged(report, &reader);
     closings(report, &t);
     run_written(report, &t);

@@ -1,4 +1,4 @@
-//! What became of each byte of a block, by the library's own answers: the words as they are read, then each row's repair, then each column's.
+//! What became of each byte of a block, by the library's own answers: the words as they are read and marked, then each row's repair, then each column's.
 use chamanzil::{
     column_parity, correct_column, correct_row, read_block, read_word, row_parity, slices,
     BlockRead, Outcome, Refusal, BLOCK, BLOCK_REPORT, COLUMN, COLUMN_DATA, MAIN, ROW, ROW_DATA,
@@ -7,11 +7,11 @@ use chamanzil::{
 
 use crate::sheet;
 
+/// What became of a byte, be it marked or not.
 #[derive(Clone, Copy, Debug, PartialEq, Eq)]
 pub enum Class {
+    /// As it was read. A marked byte is read as 0, which can be right.
     Right,
-    /// Its word is in no table; what it stands for was put right, or is 0.
-    Unknown,
     Row,
     Column,
     /// Wrong after the repair. Where the block is refused nobody knows which bytes are; then it is those that no repair reached.
@@ -19,20 +19,14 @@ pub enum Class {
 }
 
 /// The classes in the order of the counts.
-pub const CLASSES: [Class; 5] = [
-    Class::Right,
-    Class::Unknown,
-    Class::Row,
-    Class::Column,
-    Class::Wrong,
-];
+pub const CLASSES: [Class; 4] = [Class::Right, Class::Row, Class::Column, Class::Wrong];
 
 #[derive(Clone, Copy)]
 pub struct Byte {
     pub word: u16,
-    /// None where the word is in no table.
-    pub read: Option<u8>,
-    pub after_rows: u8,
+    /// Whether the word is in no table.
+    pub is_marked: bool,
+    pub read: u8,
     pub after: u8,
     pub class: Class,
 }
@@ -72,13 +66,15 @@ fn past_help(outcome: Outcome) -> bool {
     outcome == Outcome::Uncorrectable
 }
 
-/// The rows' repair, in place: which are past help.
-fn repair_rows(block: &mut [u8]) -> Vec<bool> {
-    let rows = block
-        .chunks_mut(ROW)
-        .map(|row| row.try_into().expect("rows are 182"));
-    rows.map(|row: &mut [u8; ROW]| past_help(correct_row(row)))
-        .collect()
+/// The rows' repair by their marks, in place: which are past help.
+fn repair_rows(block: &mut [u8], erasures: &[u8]) -> Vec<bool> {
+    let rows = block.chunks_mut(ROW).zip(erasures.chunks(ROW));
+    rows.map(|(row, marks)| {
+        let row = row.try_into().expect("rows are 182");
+        let marks = marks.try_into().expect("rows have 182 marks");
+        past_help(correct_row(row, marks).expect("marks are 0 or 1"))
+    })
+    .collect()
 }
 
 /// Column c over the 208 rows in the order before they were moved.
@@ -100,12 +96,12 @@ fn columns_past_help(block: &[u8]) -> Vec<bool> {
         .collect()
 }
 
-/// The block as the library leaves it after the repair, also where it refuses a frame.
-fn repaired(stream: &[u8; STREAM]) -> (Vec<u8>, Result<BlockRead, Refusal>) {
-    let (mut block, mut main) = (vec![0; BLOCK], vec![0; MAIN]);
+/// The block as the library leaves it after the repair, and its marks, also where it refuses a frame.
+fn repaired(stream: &[u8; STREAM]) -> (Vec<u8>, Vec<u8>, Result<BlockRead, Refusal>) {
+    let (mut block, mut erasures, mut main) = (vec![0; BLOCK], vec![0; BLOCK], vec![0; MAIN]);
     let mut report = [0; BLOCK_REPORT];
-    let _ = slices::read_block(stream, &mut block, &mut main, &mut report);
-    (block, read_block(stream))
+    let _ = slices::read_block(stream, &mut block, &mut erasures, &mut main, &mut report);
+    (block, erasures, read_block(stream))
 }
 
 /// The block that has the same 192 rows of 172 bytes, with the parity of clause 18.
@@ -127,14 +123,14 @@ fn with_parity(block: &[u8]) -> Vec<u8> {
 impl Damage {
     pub fn of(stream: &[u8; STREAM]) -> Self {
         let words: Vec<_> = (0..BLOCK).map(|i| word_of(stream, i)).collect();
-        let read: Vec<_> = words
+        let read: Vec<u8> = words
             .iter()
-            .map(|(word, after)| read_word(*word, *after))
+            .map(|(word, after)| read_word(*word, *after).unwrap_or(0))
             .collect();
-        let mut after_rows: Vec<u8> = read.iter().map(|byte| byte.unwrap_or(0)).collect();
-        let rows_past_help = repair_rows(&mut after_rows);
+        let (block, erasures, answer) = repaired(stream);
+        let mut after_rows = read.clone();
+        let rows_past_help = repair_rows(&mut after_rows, &erasures);
         let columns_past_help = columns_past_help(&after_rows);
-        let (block, answer) = repaired(stream);
         let right = answer.is_ok().then(|| with_parity(&block));
 
         let wrong = |i: usize| match &right {
@@ -143,15 +139,14 @@ impl Damage {
         };
         let bytes = (0..BLOCK).map(|i| Byte {
             word: words[i].0,
+            is_marked: erasures[i] == 1,
             read: read[i],
-            after_rows: after_rows[i],
             after: block[i],
-            class: match read[i] {
-                _ if wrong(i) => Class::Wrong,
-                None => Class::Unknown,
-                Some(_) if block[i] != after_rows[i] => Class::Column,
-                Some(byte) if after_rows[i] != byte => Class::Row,
-                Some(_) => Class::Right,
+            class: match () {
+                () if wrong(i) => Class::Wrong,
+                () if block[i] != after_rows[i] => Class::Column,
+                () if after_rows[i] != read[i] => Class::Row,
+                () => Class::Right,
             },
         });
         Damage {
@@ -167,10 +162,14 @@ impl Damage {
         self.bytes.iter().filter(|byte| byte.class == class).count()
     }
 
-    /// The counts in a line.
+    pub fn marks(&self) -> usize {
+        self.bytes.iter().filter(|byte| byte.is_marked).count()
+    }
+
+    /// The counts in a line: of each class, and of the marks, whatever became of their bytes.
     pub fn counts(&self) -> String {
-        let counts = CLASSES.map(|class| format!("{} {}", class.name(), self.count(class)));
-        counts.join(" ")
+        let classes = CLASSES.map(|class| format!("{} {}", class.name(), self.count(class)));
+        format!("{} marked {}", classes.join(" "), self.marks())
     }
 }
 
@@ -178,7 +177,6 @@ impl Class {
     fn name(self) -> &'static str {
         match self {
             Class::Right => "right",
-            Class::Unknown => "unknown",
             Class::Row => "row",
             Class::Column => "column",
             Class::Wrong => "wrong",

@@ -6,23 +6,22 @@ use super::picture::{CELL, HEIGHT, LEFT, TOP, WIDTH};
 
 const PAGE: &str = include_str!("page.html");
 
-/// What became of a byte: its letter in the page, and the words for it; READ stands for the byte as read. Where the block is refused nobody knows what is right.
+/// What became of a byte: its letter in the page, a capital where it is marked, and the words for it; READ stands for the byte as read. Where the block is refused
+/// nobody knows what is right.
 fn fate(byte: Byte, is_refused: bool) -> (char, &'static str) {
-    let by_column = byte.after != byte.after_rows;
-    match (byte.class, byte.read) {
-        (Class::Right, _) => ('r', "right"),
-        (Class::Row, _) => ('h', "by its row (read as READ)"),
-        (Class::Column, _) => ('v', "by its column (read as READ)"),
-        (Class::Wrong, Some(_)) => ('w', "wrong still"),
-        (Class::Wrong, None) => ('x', "wrong still (unknown)"),
-        (Class::Unknown, _) => match (by_column, byte.after != 0, is_refused) {
-            (true, _, false) => ('c', "unknown (put right by its column)"),
-            (false, true, false) => ('u', "unknown (put right by its row)"),
-            (false, false, false) => ('z', "unknown (its byte is 0)"),
-            (true, _, true) => ('c', "unknown (by its column)"),
-            (false, true, true) => ('u', "unknown (by its row)"),
-            (false, false, true) => ('z', "unknown (taken for 0)"),
-        },
+    match (byte.class, byte.is_marked, is_refused) {
+        (Class::Right, false, false) => ('r', "right"),
+        (Class::Right, false, true) => ('r', "as read"),
+        (Class::Row, false, _) => ('h', "by its row (read as READ)"),
+        (Class::Column, false, _) => ('v', "by its column (read as READ)"),
+        (Class::Wrong, false, _) => ('w', "wrong still"),
+        (Class::Right, true, false) => ('R', "marked (its byte is 0)"),
+        (Class::Right, true, true) => ('R', "marked (taken for 0)"),
+        (Class::Row, true, false) => ('H', "marked (put right by its row)"),
+        (Class::Row, true, true) => ('H', "marked (by its row)"),
+        (Class::Column, true, false) => ('V', "marked (put right by its column)"),
+        (Class::Column, true, true) => ('V', "marked (by its column)"),
+        (Class::Wrong, true, _) => ('W', "marked (wrong still)"),
     }
 }
 
@@ -72,10 +71,7 @@ pub fn page(title: &str, damage: &Damage, picture: &[u8]) -> String {
         ("counts", damage.counts()),
         ("sheet", damage.line.clone()),
         ("after", hexadecimal(damage, 2, |byte| byte.after.into())),
-        (
-            "read",
-            hexadecimal(damage, 2, |byte| byte.read.unwrap_or(0).into()),
-        ),
+        ("read", hexadecimal(damage, 2, |byte| byte.read.into())),
         ("words", hexadecimal(damage, 4, |byte| byte.word)),
         ("fates", fates),
         ("told", told(damage)),

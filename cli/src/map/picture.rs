@@ -9,9 +9,11 @@ type Colour = [u8; 3];
 const WHITE: Colour = [0xFF, 0xFF, 0xFF];
 const INK: Colour = [0x20, 0x20, 0x20];
 const PAST_HELP: Colour = [0xCC, 0x79, 0xA7];
+const MARK: Colour = [0x00, 0x00, 0x00];
 
-/// Pixels of a byte's side.
+/// Pixels of a byte's side, of which its class shows around a mark.
 pub const CELL: usize = 4;
+const AROUND: usize = 1;
 /// Where the first byte's pixels begin.
 pub const LEFT: usize = 36;
 pub const TOP: usize = 24;
@@ -23,15 +25,18 @@ const GAP: usize = 4;
 const STRIP: usize = 8;
 const LEGEND: usize = BOTTOM + GAP + STRIP + 16;
 const LINE: usize = 22;
+/// Pixels of a colour's side in the legend, and around a mark there.
+const SAMPLE: usize = 14;
+const SAMPLE_AROUND: usize = 4;
 pub const WIDTH: usize = RIGHT + LEFT;
-pub const HEIGHT: usize = LEGEND + (CLASSES.len() + 3) * LINE + 8;
+/// Below the bytes: the classes, the marks, rows and columns past help, the sheet's line.
+pub const HEIGHT: usize = LEGEND + (CLASSES.len() + 4) * LINE + 8;
 
 impl Class {
     /// Colours that people with colour blindness tell apart (Okabe and Ito), in greys where nothing was put right.
     fn colour(self) -> Colour {
         match self {
             Class::Right => [0xED, 0xED, 0xED],
-            Class::Unknown => [0x3A, 0x3A, 0x3A],
             Class::Row => [0x00, 0x9E, 0x73],
             Class::Column => [0x00, 0x72, 0xB2],
             Class::Wrong => [0xD5, 0x5E, 0x00],
@@ -40,9 +45,8 @@ impl Class {
 
     fn legend(self, is_refused: bool) -> &'static str {
         match self {
+            Class::Right if is_refused => "as read",
             Class::Right => "read right",
-            Class::Unknown if is_refused => "unknown",
-            Class::Unknown => "unknown, and put right",
             Class::Row => "corrected by its row",
             Class::Column => "corrected by its column",
             Class::Wrong => "wrong still",
@@ -63,6 +67,12 @@ impl Canvas {
         }
     }
 
+    /// The mark in the middle of a square, whose own colour shows around it.
+    fn mark(&mut self, x: usize, y: usize, side: usize, around: usize) {
+        let middle = side - 2 * around;
+        self.fill(x + around, y + around, middle, middle, MARK);
+    }
+
     /// A text, each dot of its letters `scale` pixels wide.
     fn text(&mut self, x: usize, y: usize, scale: usize, text: &str) {
         for (k, (column, row)) in font::dots(text) {
@@ -75,6 +85,9 @@ impl Canvas {
         for (i, byte) in damage.bytes.iter().enumerate() {
             let (x, y) = (LEFT + CELL * (i % ROW), TOP + CELL * (i / ROW));
             self.fill(x, y, CELL, CELL, byte.class.colour());
+            if byte.is_marked {
+                self.mark(x, y, CELL, AROUND);
+            }
         }
     }
 
@@ -113,6 +126,11 @@ impl Canvas {
                 class.legend(is_refused),
             )
         });
+        let marks = (
+            Class::Right.colour(),
+            damage.marks(),
+            "marked, its word is unknown",
+        );
         let rows = (
             PAST_HELP,
             count(&damage.rows_past_help),
@@ -124,11 +142,13 @@ impl Canvas {
             "columns past help, below",
         );
         let mut y = LEGEND;
-        for (colour, number, words) in classes.into_iter().chain([rows, columns]) {
-            self.fill(LEFT, y, 14, 14, colour);
+        for (colour, number, words) in classes.into_iter().chain([marks, rows, columns]) {
+            self.fill(LEFT, y, SAMPLE, SAMPLE, colour);
             self.text(LEFT + 22, y, 2, &format!("{number} {words}"));
             y += LINE;
         }
+        let of_marks = LEGEND + LINE * CLASSES.len();
+        self.mark(LEFT, of_marks, SAMPLE, SAMPLE_AROUND);
         self.text(LEFT, y, 2, &damage.line);
     }
 }
@@ -163,6 +183,9 @@ mod tests {
     use super::*;
     use chamanzil::{format_block, MAIN, STREAM};
 
+    static SEVENS: [u8; MAIN] = [7; MAIN];
+    static LOST: [u8; STREAM] = [0; STREAM];
+
     fn canvas_of(damage: &Damage) -> Canvas {
         let mut canvas = Canvas {
             pixels: WHITE.repeat(WIDTH * HEIGHT),
@@ -187,7 +210,7 @@ mod tests {
         text.trim_end().to_owned()
     }
 
-    /// What stands below the bytes: each class with its colour and count, rows and columns past help, and the sheet's line.
+    /// What stands below the bytes: each class with its colour and count, the marks, rows and columns past help, and the sheet's line.
     fn reads(stream: &[u8; STREAM], due: [&str; 8]) {
         let damage = Damage::of(stream);
         let canvas = canvas_of(&damage);
@@ -195,24 +218,29 @@ mod tests {
             assert_eq!(text_at(&canvas, LEFT + 22, LEGEND + LINE * k, 2), *line);
         }
         assert_eq!(text_at(&canvas, LEFT, LEGEND + LINE * 7, 2), due[7]);
+        let colour_at = |k: usize, of: usize| {
+            let at = 3 * (WIDTH * (LEGEND + LINE * k + of) + LEFT + of);
+            &canvas.pixels[at..][..3]
+        };
         for (k, class) in CLASSES.into_iter().enumerate() {
-            let at = 3 * (WIDTH * (LEGEND + LINE * k) + LEFT);
-            assert_eq!(canvas.pixels[at..][..3], class.colour());
+            assert_eq!([colour_at(k, 0), colour_at(k, 7)], [class.colour(); 2]);
         }
+        assert_eq!(colour_at(4, 0), Class::Right.colour());
+        assert_eq!(colour_at(4, 7), MARK);
     }
 
     #[test]
     fn the_legend_of_a_block_that_is_read() {
-        let mut stream = format_block(&[7; MAIN], 0x03_0000, 0).unwrap();
+        let mut stream = format_block(&SEVENS, 0x03_0000, 0).unwrap();
         stream[14..16].fill(0xFF);
         reads(
             &stream,
             [
                 "37855 read right",
-                "1 unknown, and put right",
-                "0 corrected by its row",
+                "1 corrected by its row",
                 "0 corrected by its column",
                 "0 wrong still",
+                "1 marked, its word is unknown",
                 "0 rows past help, at the right",
                 "0 columns past help, below",
                 "block 030000 rows 1 0 columns 0 0 unknown 1 sync 0",
@@ -223,14 +251,14 @@ mod tests {
     #[test]
     fn the_legend_of_a_block_that_is_refused() {
         reads(
-            &[0; STREAM],
+            &LOST,
             [
-                "0 read right",
-                "37856 unknown",
+                "35776 as read",
                 "0 corrected by its row",
                 "0 corrected by its column",
-                "0 wrong still",
-                "0 rows past help, at the right",
+                "2080 wrong still",
+                "37856 marked, its word is unknown",
+                "208 rows past help, at the right",
                 "0 columns past help, below",
                 "refused 6 frame 0",
             ],

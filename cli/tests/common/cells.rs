@@ -2,30 +2,22 @@
 use super::damage::{half_at, half_of};
 use super::streams::{recording_row, with_parity, Block};
 use chamanzil::{correct_column, correct_row, read_block, read_sector, read_word, Outcome};
-use chamanzil::{BLOCK, COLUMN, ROW, ROW_DATA, SECTOR_READ, SECTOR_STREAM, STREAM};
+use chamanzil::{BLOCK, COLUMN, ROW, ROW_DATA, SECTOR, SECTOR_READ, SECTOR_STREAM, STREAM};
 
 #[derive(Clone, Copy, Debug, PartialEq, Eq)]
 pub enum Class {
     Wrong,
-    Unknown,
     Column,
     Row,
     Right,
 }
 
 impl Class {
-    pub const ALL: [Class; 5] = [
-        Class::Right,
-        Class::Unknown,
-        Class::Row,
-        Class::Column,
-        Class::Wrong,
-    ];
+    pub const ALL: [Class; 4] = [Class::Right, Class::Row, Class::Column, Class::Wrong];
 
     pub fn colour(self) -> [u8; 3] {
         match self {
             Class::Right => [0xED, 0xED, 0xED],
-            Class::Unknown => [0x3A, 0x3A, 0x3A],
             Class::Row => [0x00, 0x9E, 0x73],
             Class::Column => [0x00, 0x72, 0xB2],
             Class::Wrong => [0xD5, 0x5E, 0x00],
@@ -36,7 +28,6 @@ impl Class {
     pub fn name(self) -> &'static str {
         match self {
             Class::Right => "right",
-            Class::Unknown => "unknown",
             Class::Row => "row",
             Class::Column => "column",
             Class::Wrong => "wrong",
@@ -66,9 +57,10 @@ impl Cells {
         let words: Vec<u16> = (0..BLOCK).map(|i| half_at(stream, half_of(0, i))).collect();
         let after = |i| half_at(stream, half_of(0, i) + 1);
         let meanings: Vec<Option<u8>> = (0..BLOCK).map(|i| read_word(words[i], after(i))).collect();
-        let read = as_read(&meanings);
-        assert_eq!(read, by_sectors(stream));
-        let (by_rows, is_row_past_help) = rows_repaired(&read);
+        let read = as_block(&meanings, |meaning| meaning.unwrap_or(0));
+        let erasures = as_block(&meanings, |meaning| u8::from(meaning.is_none()));
+        assert_eq!(by_sectors(stream), (read.clone(), erasures.clone()));
+        let (by_rows, is_row_past_help) = rows_repaired(&read, &erasures);
         let (repaired, is_column_past_help) = columns_repaired(&by_rows);
         let (sheet, is_refused) = sheet_line(stream);
         let mut cells = Cells {
@@ -91,12 +83,15 @@ impl Cells {
         self.meanings[i].unwrap_or(0)
     }
 
-    pub fn is_by_row(&self, i: usize) -> bool {
-        self.by_rows[i] != self.read_as(i)
+    /// Whether its word is in no table.
+    pub fn is_marked(&self, i: usize) -> bool {
+        self.meanings[i].is_none()
     }
 
-    pub fn is_by_column(&self, i: usize) -> bool {
-        self.repaired[i] != self.by_rows[i]
+    /// How many bytes of a row are marked.
+    pub fn marks_of(&self, row: usize) -> usize {
+        let places = row * ROW..(row + 1) * ROW;
+        places.filter(|i| self.is_marked(*i)).count()
     }
 
     fn classified(&self) -> Vec<Class> {
@@ -111,9 +106,8 @@ impl Cells {
         };
         let class = |i: usize| match () {
             () if is_wrong(i) => Class::Wrong,
-            () if self.meanings[i].is_none() => Class::Unknown,
-            () if self.is_by_column(i) => Class::Column,
-            () if self.is_by_row(i) => Class::Row,
+            () if self.repaired[i] != self.by_rows[i] => Class::Column,
+            () if self.by_rows[i] != self.read_as(i) => Class::Row,
             () => Class::Right,
         };
         (0..BLOCK).map(class).collect()
@@ -128,33 +122,45 @@ impl Cells {
         self.classes.iter().filter(|other| **other == class).count()
     }
 
-    /// The line of counts, as `right 35000 unknown 1619 row 200 column 1037 wrong 0`.
+    /// How many bytes are marked.
+    pub fn marks(&self) -> usize {
+        (0..COLUMN).map(|row| self.marks_of(row)).sum()
+    }
+
+    /// The line of counts, as `right 35000 row 1619 column 1237 wrong 0 marked 1200`.
     pub fn counts(&self) -> String {
         let count = |class: Class| format!("{} {}", class.name(), self.count(class));
-        Class::ALL.map(count).join(" ")
+        format!(
+            "{} marked {}",
+            Class::ALL.map(count).join(" "),
+            self.marks()
+        )
     }
 }
 
-fn as_read(meanings: &[Option<u8>]) -> Block {
-    let bytes: Vec<u8> = meanings
-        .iter()
-        .map(|meaning| meaning.unwrap_or(0))
-        .collect();
+fn as_block(meanings: &[Option<u8>], of: fn(Option<u8>) -> u8) -> Block {
+    let bytes: Vec<u8> = meanings.iter().map(|meaning| of(*meaning)).collect();
     bytes.into_boxed_slice().try_into().unwrap()
 }
 
-fn by_sectors(stream: &[u8; STREAM]) -> Block {
+/// The bytes and the marks of the sector reader.
+pub fn by_sectors(stream: &[u8; STREAM]) -> (Block, Block) {
     let starts = (0..16).map(|s| s * SECTOR_STREAM);
     let sectors = starts.map(|at| read_sector(stream[at..][..SECTOR_READ].try_into().unwrap()));
-    let bytes: Vec<u8> = sectors.flat_map(|sector| *sector.bytes).collect();
-    bytes.into_boxed_slice().try_into().unwrap()
+    let (bytes, erasures): (Vec<_>, Vec<_>) = sectors
+        .map(|sector| (*sector.bytes, *sector.erasures))
+        .unzip();
+    let joined = |parts: Vec<[u8; SECTOR]>| parts.concat().into_boxed_slice().try_into().unwrap();
+    (joined(bytes), joined(erasures))
 }
 
-fn rows_repaired(read: &Block) -> (Block, [bool; COLUMN]) {
+fn rows_repaired(read: &Block, erasures: &Block) -> (Block, [bool; COLUMN]) {
     let mut block = read.clone();
     let mut is_past_help = [false; COLUMN];
-    for (row, past) in block.chunks_exact_mut(ROW).zip(&mut is_past_help) {
-        *past = correct_row(row.try_into().unwrap()) == Outcome::Uncorrectable;
+    let rows = block.chunks_exact_mut(ROW).zip(erasures.chunks_exact(ROW));
+    for ((row, marks), past) in rows.zip(&mut is_past_help) {
+        let outcome = correct_row(row.try_into().unwrap(), marks.try_into().unwrap());
+        *past = outcome == Ok(Outcome::Uncorrectable);
     }
     (block, is_past_help)
 }

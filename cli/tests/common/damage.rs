@@ -1,6 +1,6 @@
-//! Scratches: rows of a block's stream overwritten, and single half words changed.
-use super::streams::Numbers;
-use chamanzil::{BLOCK_STREAM, COLUMN, ROW};
+//! Scratches: rows of a block's stream overwritten, and single half words changed; and damage that marks do not help with.
+use super::streams::{frame_place, Numbers};
+use chamanzil::{BLOCK_STREAM, COLUMN, ROW, ROW_DATA};
 
 /// Bytes of a row in a stream: two Sync Frames of 186.
 pub const ROW_STREAM: usize = 372;
@@ -83,9 +83,28 @@ pub fn spot_rows(numbers: &mut Numbers, stream: &mut [u8], k: usize) {
     }
 }
 
-/// Damage that a block stands: eight rows overwritten, which are then past help, and two half words in each row changed.
+/// Damage that a block stands: eight rows overwritten, which are then past help or become another code row, and two half words in each row changed.
 pub fn scratch(numbers: &mut Numbers, stream: &mut [u8], k: usize) {
     spot_rows(numbers, stream, k);
     let rows = some_rows(numbers, 8);
     overwrite_rows(numbers, stream, k, &rows, With::Words);
+}
+
+/// A half word that is in no table.
+pub const NO_WORD: u16 = 0xFFFF;
+/// The word of byte 1 in State 1. It stands for it whatever follows: its next State is 1.
+const WORD_OF_1: u16 = 0b0010_0000_0001_0010;
+
+/// Damage that a block of main data scrambled to zeros stands without marks and not with them, in rows 1 to 9 of a frame, which are zeros. In each eleven words are
+/// lost, and read as 0, which is right; two bytes become 1. Without marks the row mends these two. With them it is past help, and two columns have nine wrong bytes.
+pub fn lose_zeros(stream: &mut [u8], k: usize, frame: usize) {
+    let part = &mut stream[k * BLOCK_STREAM..][..BLOCK_STREAM];
+    for row in (1..10).map(|r| frame_place(frame, ROW_DATA * r) / ROW) {
+        for place in 40..51 {
+            set_half(part, half_of(row, place), NO_WORD);
+        }
+        for place in [20, 60] {
+            set_half(part, half_of(row, place), WORD_OF_1);
+        }
+    }
 }

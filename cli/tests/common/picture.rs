@@ -1,4 +1,4 @@
-//! Pictures: a PNG's pixels, and where a map has its cells and marks.
+//! Pictures: a PNG's pixels, and where a map has its cells, marks and strips.
 use super::cells::Cells;
 use chamanzil::{COLUMN, ROW, ROW_DATA};
 
@@ -6,7 +6,9 @@ pub const LEFT: usize = 36;
 pub const TOP: usize = 24;
 /// Pixels of a cell, each way.
 pub const CELL: usize = 4;
-pub const MARK: [u8; 3] = [0xCC, 0x79, 0xA7];
+const PAST_HELP: [u8; 3] = [0xCC, 0x79, 0xA7];
+/// The middle of a cell whose byte is marked.
+const MARK: [u8; 3] = [0x00, 0x00, 0x00];
 pub const WHITE: [u8; 3] = [0xFF, 0xFF, 0xFF];
 
 pub struct Picture {
@@ -62,15 +64,26 @@ impl Picture {
         colour
     }
 
-    pub fn cell(&self, row: usize, place: usize) -> [u8; 3] {
-        self.colour_of(LEFT + CELL * place, TOP + CELL * row, CELL, CELL)
+    /// The colour around a cell's middle, and that of its middle.
+    fn cell(&self, row: usize, place: usize) -> [[u8; 3]; 2] {
+        let (x, y) = (LEFT + CELL * place, TOP + CELL * row);
+        let rim = [
+            (x, y, CELL, 1),
+            (x, y + CELL - 1, CELL, 1),
+            (x, y, 1, CELL),
+            (x + CELL - 1, y, 1, CELL),
+        ];
+        let around = rim.map(|(x, y, width, height)| self.colour_of(x, y, width, height));
+        assert_eq!(around, [around[0]; 4], "row {row}, place {place}");
+        let middle = self.colour_of(x + 1, y + 1, CELL - 2, CELL - 2);
+        [around[0], middle]
     }
 
-    fn row_mark(&self, row: usize) -> [u8; 3] {
+    fn row_strip(&self, row: usize) -> [u8; 3] {
         self.colour_of(LEFT + CELL * ROW + CELL, TOP + CELL * row, 2 * CELL, CELL)
     }
 
-    fn column_mark(&self, place: usize) -> [u8; 3] {
+    fn column_strip(&self, place: usize) -> [u8; 3] {
         self.colour_of(
             LEFT + CELL * place,
             TOP + CELL * COLUMN + CELL,
@@ -79,32 +92,34 @@ impl Picture {
         )
     }
 
-    /// Every cell has its class's colour, and every row and column past help its mark.
+    /// Every cell has its class's colour, a black middle where its byte is marked, and every row and column past help its strip.
     #[track_caller]
     pub fn shows(&self, cells: &Cells) {
         for (i, class) in cells.classes.iter().enumerate() {
             let (row, place) = (i / ROW, i % ROW);
+            let around = class.colour();
+            let middle = if cells.is_marked(i) { MARK } else { around };
             assert_eq!(
                 self.cell(row, place),
-                class.colour(),
+                [around, middle],
                 "row {row}, place {place}: {class:?}"
             );
         }
-        let mark = |is_past_help: bool| if is_past_help { MARK } else { WHITE };
+        let strip = |is_past_help: bool| if is_past_help { PAST_HELP } else { WHITE };
         for (row, is_past_help) in cells.is_row_past_help.into_iter().enumerate() {
-            assert_eq!(self.row_mark(row), mark(is_past_help), "mark of row {row}");
+            assert_eq!(self.row_strip(row), strip(is_past_help), "row {row}");
         }
         for place in 0..ROW {
             let is_past_help = place < ROW_DATA && cells.is_column_past_help[place];
             assert_eq!(
-                self.column_mark(place),
-                mark(is_past_help),
-                "mark of column {place}"
+                self.column_strip(place),
+                strip(is_past_help),
+                "column {place}"
             );
         }
     }
 
-    /// Whether something other than background stands below the cells and their marks.
+    /// Whether something other than background stands below the cells and the strips.
     pub fn has_a_legend(&self) -> bool {
         let from = TOP + CELL * COLUMN + 4 * CELL;
         self.pixels[from * self.width..]

@@ -1,5 +1,5 @@
-//! Images and streams: what the library's writer makes of an image (`run_of`, `written`) and what is said of it (`said_of`), and runs of blocks that the block
-//! maker would not make (`edited`, `run_of_blocks`).
+//! Images and streams: what the library's writer makes of an image (`run_of`, `written`) and what is said of it (`said_of`), runs of blocks that the block
+//! maker would not make (`edited`, `run_of_blocks`), and main data of which most rows are zeros (`scrambled_to_zeros`).
 use chamanzil::{column_parity, encode_block, ied, row_parity, Record, Writer};
 use chamanzil::{BLOCK, BLOCK_STREAM, CLOSING, COLUMN_DATA, MAIN, ROW, ROW_DATA, STREAM};
 
@@ -141,6 +141,13 @@ pub fn blocks_of(image: &[u8], first: u32) -> Vec<Block> {
         .zip(numbers)
         .map(|(main, number)| block_of(main, number, 0))
         .collect()
+}
+
+/// Main data that are zeros once they are scrambled, of a block with this number: the block of zeros shows the scrambling bytes in their place.
+pub fn scrambled_to_zeros(first: u32) -> Vec<u8> {
+    let zeros = block_of(&vec![0; MAIN], first, 0);
+    let places = (0..16).flat_map(|k| (FRAME_MAIN..FRAME_EDC).map(move |i| frame_place(k, i)));
+    places.map(|place| zeros[place]).collect()
 }
 
 /// An ID in frame k of a block, with the IED that is right for it.

@@ -11,12 +11,13 @@ use native.Mathlib.Numerals.{add-one}
 use native.Mathlib.Omega.{arith}
 use lib.ListN.{length, getD, take, drop, length-append, length-drop, List·getD-append}
 use lib.Seq.{getD-take, getD-drop, drop-drop, getD-append-add, length-take-le}
+use Rattle.lists.specs.Count.{bit}
 use Rattle.lists.proofs.Count.{count-le}
 use Rattle.lists.proofs.Fill.{Upto, upto-all, length-tabulate, getD-tabulate}
-use Rattle.channel.specs.Block.{readAt, readSector, readBlock}
+use Rattle.channel.specs.Block.{readAt, readSector, readBlock, unknownAt, erasuresOfSector, erasuresOfBlock}
 use Rattle.layout.specs.Sectors.{sectorPart}
-use Rattle.channel.proofs.Sectors.{part-read, read-block}
-use Rattle.reader.specs.Sector.{unknownAt, lostSync, unknownTally, syncTally, sectorFits, sectorAnswer, sectorAfter}
+use Rattle.channel.proofs.Sectors.{part-read, part-unknown, read-block, erasures-block}
+use Rattle.reader.specs.Sector.{lostSync, unknownTally, syncTally, sectorFits, sectorAnswer, sectorAfter, erasuresAfter}
 use Rattle.reader.specs.declared.SectorRead.{SectorRead}
 use Rattle.reader.proofs.Calls.{part-fits, part-answer≡tallies}
 use Rattle.layout.specs.Lengths.{blockSize, sectorSize, streamSize}
@@ -60,28 +61,45 @@ pub sync-le : (xs : List ℕ) → syncTally xs ≤ 26
 unfolding syncTally
 sync-le xs = count-le (lostSync xs) 0 26
 
+-- the mark of byte i
+abbrev pub markAt : List ℕ → ℕ → ℕ
+markAt xs i = bit (unknownAt xs i)
+
 small : (u n : ℕ) → u ≤ n → n < 65536 → u % 65536 ≡ u
 small u n l h = mod-eq-of-lt (omega arith)
 
+-- sector k of a block's stream, as its part is lent
 module _ (xs part : List ℕ) (k : ℕ) (hk : k < 16) (whole : length xs ≡ streamSize) (e : part ≡ sectorPart xs k) where
-  fits : (n : ℕ) → n ≡ sectorSize → sectorFits part n ≡ true
-  fits n m = ap (λ (x : List ℕ). sectorFits x n) e ∙ part-fits xs whole k n hk m
+  fits : (n m : ℕ) → n ≡ sectorSize → m ≡ sectorSize → sectorFits part n m ≡ true
+  fits n m hn hm = ap (λ (x : List ℕ). sectorFits x n m) e ∙ part-fits xs whole k n m hk hn hm
 
-  pub sector-bytes : (old : List ℕ) → length old ≡ sectorSize → (i : ℕ) → i < sectorSize → getD (sectorAfter part old) i 0 ≡ readAt xs (sectorSize * k + i)
+  -- its buffers of n and m bytes hold what is read of the block
+  pub sector-bytes : (old : List ℕ) (m : ℕ) → length old ≡ sectorSize → m ≡ sectorSize → (i : ℕ) → i < sectorSize → getD (sectorAfter part old m) i 0 ≡ readAt xs (sectorSize * k + i)
   unfolding sectorAfter
-  sector-bytes old m i h =
-      ap (λ (t : Bool). getD (cond t (readSector part) old) i 0) (fits (length old) m) ∙ getD-tabulate (readAt part) sectorSize i h
+  sector-bytes old m hn hm i h =
+      ap (λ (t : Bool). getD (cond t (readSector part) old) i 0) (fits (length old) m hn hm) ∙ getD-tabulate (readAt part) sectorSize i h
       ∙ ap (λ (x : List ℕ). readAt x i) e ∙ part-read xs k i h
 
-  pub sector-length : (old : List ℕ) → length old ≡ sectorSize → length (sectorAfter part old) ≡ sectorSize
+  pub sector-length : (old : List ℕ) (m : ℕ) → length old ≡ sectorSize → m ≡ sectorSize → length (sectorAfter part old m) ≡ sectorSize
   unfolding sectorAfter
-  sector-length old m = ap (λ (t : Bool). length (cond t (readSector part) old)) (fits (length old) m) ∙ length-tabulate (readAt part) sectorSize
+  sector-length old m hn hm = ap (λ (t : Bool). length (cond t (readSector part) old)) (fits (length old) m hn hm) ∙ length-tabulate (readAt part) sectorSize
+
+  pub sector-erasures :
+      (n : ℕ) (old : List ℕ) → n ≡ sectorSize → length old ≡ sectorSize → (i : ℕ) → i < sectorSize → getD (erasuresAfter part n old) i 0 ≡ markAt xs (sectorSize * k + i)
+  unfolding erasuresAfter
+  sector-erasures n old hn hm i h =
+      ap (λ (t : Bool). getD (cond t (erasuresOfSector part) old) i 0) (fits n (length old) hn hm) ∙ getD-tabulate (markAt part) sectorSize i h
+      ∙ ap (λ (x : List ℕ). markAt x i) e ∙ ap bit (part-unknown xs k i h)
+
+  pub erasures-length : (n : ℕ) (old : List ℕ) → n ≡ sectorSize → length old ≡ sectorSize → length (erasuresAfter part n old) ≡ sectorSize
+  unfolding erasuresAfter
+  erasures-length n old hn hm = ap (λ (t : Bool). length (cond t (erasuresOfSector part) old)) (fits n (length old) hn hm) ∙ length-tabulate (markAt part) sectorSize
 
   -- the sums with it
-  pub sums-next : (s t : Sums) (n : ℕ) (r : SectorRead) → n ≡ sectorSize → r ≡ sectorAnswer part n → t ≡ addSector s r
+  pub sums-next : (s t : Sums) (n m : ℕ) (r : SectorRead) → n ≡ sectorSize → m ≡ sectorSize → r ≡ sectorAnswer part n m → t ≡ addSector s r
       → (t .unknown ≡ s .unknown + unknownTally (sectorPart xs k)) × (t .sync ≡ s .sync + syncTally (sectorPart xs k))
-  sums-next s t n r m q a =
-      let z = a ∙ ap (addSector s) (q ∙ ap (λ (x : List ℕ). sectorAnswer x n) e ∙ part-answer≡tallies xs whole k n hk m) in (
+  sums-next s t n m r hn hm q a =
+      let z = a ∙ ap (addSector s) (q ∙ ap (λ (x : List ℕ). sectorAnswer x n m) e ∙ part-answer≡tallies xs whole k n m hk hn hm) in (
         ap (λ (x : Sums). x .unknown) z ∙ ap (λ (x : ℕ). s .unknown + x) (small (unknownTally (sectorPart xs k)) sectorSize (unknown-le (sectorPart xs k)) (omega arith)),
         ap (λ (x : Sums). x .sync) z ∙ ap (λ (x : ℕ). s .sync + x) (small (syncTally (sectorPart xs k)) 26 (sync-le (sectorPart xs k)) (omega arith)),
       )
@@ -101,3 +119,6 @@ sum-end f xs k h =
 -- sixteen sectors are the block
 pub sectors-all : (xs old ys : List ℕ) → length old ≡ blockSize → Upto (readAt xs) old ys blockSize → ys ≡ readBlock xs
 sectors-all xs old ys l w = upto-all (readAt xs) old ys blockSize l w ∙ sym (read-block xs)
+
+pub erasures-all : (xs old ys : List ℕ) → length old ≡ blockSize → Upto (markAt xs) old ys blockSize → ys ≡ erasuresOfBlock xs
+erasures-all xs old ys l w = upto-all (markAt xs) old ys blockSize l w ∙ sym (erasures-block xs)

@@ -1,11 +1,12 @@
-// The reader of a whole block (document 01, 'Reading a word, and the repair'): sixteen calls of the sector reader, then one of the repairer.
+// The reader of a whole block (document 01, 'Reading a word, and the repair'): sixteen calls of the sector reader, then one of the repairer with their
+// marks (document 02, request 2).
 ghost use mathlib.Core.Path.{_≡_};
 ghost use Prim.Native.Nat.{_+_, _<_};
 ghost use lib.ListN.{length};
-ghost use Rattle.channel.specs.Block.{readBlock};
+ghost use Rattle.channel.specs.Block.{readBlock, erasuresOfBlock};
 ghost use Rattle.reader.specs.Sector.{unknownTally, syncTally};
 ghost use Rattle.layout.specs.Lengths.{blockSize, streamSize};
-ghost use Rattle.blockreader.specs.BlockReader.{sectorSum, withSums, blockReadAnswer, blockReadBlock, blockReadMain, blockReadNumber, blockReadRefusal, blockReadFrame, blockReadRefusedFrame};
+ghost use Rattle.blockreader.specs.BlockReader.{sectorSum, withSums, blockReadAnswer, blockReadBlock, blockReadErasures, blockReadMain, blockReadNumber, blockReadRefusal, blockReadFrame, blockReadRefusedFrame};
 ghost use Rattle.blockreader.specs.Inner.{addSector};
 use layout::BLOCK_SIZE;
 use layout::MAIN_SIZE;
@@ -18,7 +19,7 @@ use reader::SectorRead;
 use repairer::Repaired;
 use repairer::Tallies;
 
-// What the whole-block reader answers. Document 01's number of each is `blockReadNumber`, and the frame it carries `blockReadFrame`.
+// What the whole-block reader answers. The number of each is `blockReadNumber`, and the frame it carries `blockReadFrame`.
 pub enum BlockRead {
     // All frames pass: the main data are handed out, with the first number, the repairer's tallies and the sums of the sector tallies.
     Block {
@@ -32,6 +33,8 @@ pub enum BlockRead {
         number: u8,
         frame: u8,
     },
+    // A mark is neither 0 nor 1: the repairer's answer, which is never given here, since the sector reader's marks are.
+    ErasureRefused,
     // A buffer has another length than stated.
     LengthRefused,
 }
@@ -59,11 +62,13 @@ impl Sums {
     }
 }
 
-// The sixteen sectors, each with the two bytes after it, one after the other into the block buffer.
-fn read_sectors(stream: &[u8], block: &mut [u8]) -> Sums
-    requires { ⌜ length (now stream) ≡ streamSize ⌝ }
-    requires { ⌜ length (now block) ≡ blockSize ⌝ }
+// The sixteen sectors, each with the two bytes after it, one after the other into the block buffer, and their marks.
+fn read_sectors(stream: &[u8], block: &mut [u8], erasures: &mut [u8]) -> Sums
+    requires { ⌜ (length (now stream) ≡ streamSize)
+        × (length (now block) ≡ blockSize)
+        × (length (now erasures) ≡ blockSize) ⌝ }
     ensures { λ s. ⌜ (now (block .exit) ≡ readBlock (now (stream .entry)))
+        × (now (erasures .exit) ≡ erasuresOfBlock (now (stream .entry)))
         × (s .unknown ≡ sectorSum unknownTally (now (stream .entry)) 0 16)
         × (s .sync ≡ sectorSum syncTally (now (stream .entry)) 0 16) ⌝ }
 {
@@ -88,6 +93,7 @@ fn read_sectors(stream: &[u8], block: &mut [u8]) -> Sums
             &syncs,
             &stream[from..to],
             &mut block[at..end],
+            &mut erasures[at..end],
         );
         s = s.with(r);
         k += 1;
@@ -106,23 +112,36 @@ fn answer_of(r: Repaired, s: Sums) -> BlockRead
             sync: s.sync,
         },
         Repaired::FrameRefused { number, frame } => BlockRead::FrameRefused { number, frame },
+        Repaired::ErasureRefused => BlockRead::ErasureRefused,
         Repaired::LengthRefused => BlockRead::LengthRefused,
     }
 }
 
 // The whole-block reader. Where a buffer has another length than stated, everything is left as it was.
-pub fn read_block(stream: &[u8], block: &mut [u8], main: &mut [u8]) -> BlockRead
+pub fn read_block(
+    stream: &[u8],
+    block: &mut [u8],
+    erasures: &mut [u8],
+    main: &mut [u8],
+) -> BlockRead
     ensures { λ r. ⌜ r
-        ≡ blockReadAnswer (now (stream .entry)) (length (now (block .entry))) (length (now (main .entry))) ⌝ }
+        ≡ blockReadAnswer (now (stream .entry)) (length (now (block .entry))) (length (now (erasures .entry)))
+        (length (now (main .entry))) ⌝ }
     ensures { λ r. ⌜ blockReadNumber r
-        ≡ blockReadRefusal (now (stream .entry)) (length (now (block .entry))) (length (now (main .entry))) ⌝ }
+        ≡ blockReadRefusal (now (stream .entry)) (length (now (block .entry))) (length (now (erasures .entry)))
+        (length (now (main .entry))) ⌝ }
     ensures { λ r. ⌜ blockReadFrame r
         ≡ blockReadRefusedFrame (now (stream .entry)) (length (now (block .entry)))
-        (length (now (main .entry))) ⌝ }
+        (length (now (erasures .entry))) (length (now (main .entry))) ⌝ }
     ensures { λ r. ⌜ now (block .exit)
-        ≡ blockReadBlock (now (stream .entry)) (now (block .entry)) (length (now (main .entry))) ⌝ }
+        ≡ blockReadBlock (now (stream .entry)) (now (block .entry)) (length (now (erasures .entry)))
+        (length (now (main .entry))) ⌝ }
+    ensures { λ r. ⌜ now (erasures .exit)
+        ≡ blockReadErasures (now (stream .entry)) (length (now (block .entry))) (now (erasures .entry))
+        (length (now (main .entry))) ⌝ }
     ensures { λ r. ⌜ now (main .exit)
-        ≡ blockReadMain (now (stream .entry)) (length (now (block .entry))) (now (main .entry)) ⌝ }
+        ≡ blockReadMain (now (stream .entry)) (length (now (block .entry))) (length (now (erasures .entry)))
+        (now (main .entry)) ⌝ }
 {
     if stream.len() != STREAM_SIZE {
         return BlockRead::LengthRefused;
@@ -130,11 +149,14 @@ pub fn read_block(stream: &[u8], block: &mut [u8], main: &mut [u8]) -> BlockRead
     if block.len() != BLOCK_SIZE {
         return BlockRead::LengthRefused;
     }
+    if erasures.len() != BLOCK_SIZE {
+        return BlockRead::LengthRefused;
+    }
     if main.len() != MAIN_SIZE {
         return BlockRead::LengthRefused;
     }
-    let s = read_sectors(stream, block);
-    let r = repairer::repair_block(block, main);
+    let s = read_sectors(stream, block, erasures);
+    let r = repairer::repair_block(block, erasures, main);
     answer_of(r, s)
 }
 
@@ -150,6 +172,7 @@ pub fn block_read_number(r: BlockRead) -> u8
             sync: _,
         } => 0,
         BlockRead::FrameRefused { number, frame: _ } => number,
+        BlockRead::ErasureRefused => 11,
         BlockRead::LengthRefused => 1,
     }
 }

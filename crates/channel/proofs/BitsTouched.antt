@@ -1,6 +1,7 @@
--- A byte that no changed bit touches is not disturbed (bits-touched), and a permitted stream is of bytes (stream-bytes).
+-- A byte that no changed bit touches is not disturbed (bits-touched), a stream that is read as it was laid has no touched byte (untouched), and a permitted stream
+-- is of bytes (stream-bytes).
 -- Assumes nothing.
-use mathlib.Core.Path.{_≡_, sym, ap, ap₂, subst, _∙_}
+use mathlib.Core.Path.{_≡_, refl, sym, ap, ap₂, subst, _∙_}
 use mathlib.Core.Bool.{Bool, true, false, not, _&&_, _||_}
 use mathlib.Core.List.{List, [], _∷_}
 use Prim.Native.Nat.{ℕ, zero, suc, _+_, _*_, _/_, _%_, _<_}
@@ -22,7 +23,7 @@ use Rattle.bytes.proofs.Halves.{packed-bytes, same-byte, bit-of-byte}
 use Rattle.layout.specs.Sectors.{halfOf}
 use Rattle.channel.specs.Block.{changed, someFrom, touched}
 use Rattle.channel.specs.Channel.{Item, sync, byte, nextFor, lastFor, allowed, permitted, stream, proper, allProper}
-use Rattle.channel.proofs.Damage.{sameMarks, disturbed}
+use Rattle.channel.proofs.Damage.{sameStateBits, disturbed}
 use Rattle.channel.proofs.Entries.{Taken, taken, taken-next}
 
 none-at : (t : ℕ → Bool) (k n : ℕ) → someFrom t k n ≡ false → (j : ℕ) → j < n → t (k + j) ≡ false
@@ -44,24 +45,24 @@ same-at ys xs by bx k e =
     same-byte (getD xs k 0) (getD ys k 0) (getD-byte xs k bx) (getD-byte ys k by)
     (λ j h. sym (bit-of-byte xs k j h) ∙ kept ys xs (8 * k + j) (e j h) ∙ bit-of-byte ys k j h)
 
-high-mark : (x y : ℕ) → x < 256 → y < 256 → (x * 256 + y) / 32768 % 2 ≡ x / 128 % 2
-high-mark x y hx hy = let e : (x * 256 + y) / 32768 ≡ x / 128 = omega arith in ap (λ (z : ℕ). z % 2) e
+bit-15-of : (x y : ℕ) → x < 256 → y < 256 → (x * 256 + y) / 32768 % 2 ≡ x / 128 % 2
+bit-15-of x y hx hy = let e : (x * 256 + y) / 32768 ≡ x / 128 = omega arith in ap (λ (z : ℕ). z % 2) e
 
-low-mark : (x y : ℕ) → y < 256 → (x * 256 + y) / 8 % 2 ≡ y / 8 % 2
-low-mark x y hy = let e : (x * 256 + y) / 8 ≡ x * 32 + y / 8 = omega arith in rw e (omega arith)
+bit-3-of : (x y : ℕ) → y < 256 → (x * 256 + y) / 8 % 2 ≡ y / 8 % 2
+bit-3-of x y hy = let e : (x * 256 + y) / 8 ≡ x * 32 + y / 8 = omega arith in rw e (omega arith)
 
-mark-high : (xs : List ℕ) → Bytes xs → (k : ℕ) → halfAt xs (k + 1) / 32768 % 2 ≡ bitAt xs (16 * k + 16)
+half-bit-15 : (xs : List ℕ) → Bytes xs → (k : ℕ) → halfAt xs (k + 1) / 32768 % 2 ≡ bitAt xs (16 * k + 16)
 unfolding halfAt
-mark-high xs bx k =
+half-bit-15 xs bx k =
     let e : 8 * (2 * (k + 1)) + 0 ≡ 16 * k + 16 = omega arith in
-    high-mark (getD xs (2 * (k + 1)) 0) (getD xs (2 * (k + 1) + 1) 0) (getD-byte xs (2 * (k + 1)) bx) (getD-byte xs (2 * (k + 1) + 1) bx)
+    bit-15-of (getD xs (2 * (k + 1)) 0) (getD xs (2 * (k + 1) + 1) 0) (getD-byte xs (2 * (k + 1)) bx) (getD-byte xs (2 * (k + 1) + 1) bx)
     ∙ sym (bit-of-byte xs (2 * (k + 1)) 0 (lit< tt)) ∙ ap (bitAt xs) e
 
-mark-low : (xs : List ℕ) → Bytes xs → (k : ℕ) → halfAt xs (k + 1) / 8 % 2 ≡ bitAt xs (16 * k + 28)
+half-bit-3 : (xs : List ℕ) → Bytes xs → (k : ℕ) → halfAt xs (k + 1) / 8 % 2 ≡ bitAt xs (16 * k + 28)
 unfolding halfAt
-mark-low xs bx k =
+half-bit-3 xs bx k =
     let e : 8 * (2 * (k + 1) + 1) + 4 ≡ 16 * k + 28 = omega arith in
-    low-mark (getD xs (2 * (k + 1)) 0) (getD xs (2 * (k + 1) + 1) 0) (getD-byte xs (2 * (k + 1) + 1) bx)
+    bit-3-of (getD xs (2 * (k + 1)) 0) (getD xs (2 * (k + 1) + 1) 0) (getD-byte xs (2 * (k + 1) + 1) bx)
     ∙ sym (bit-of-byte xs (2 * (k + 1) + 1) 4 (lit< tt)) ∙ ap (bitAt xs) e
 
 and-true : (a b : Bool) → a ≡ true → b ≡ true → (a && b) ≡ true
@@ -73,10 +74,10 @@ bits-touched ys xs by bx i e =
     let k = halfOf i in
     let t = changed ys xs in
     let two = or-none (someFrom t (16 * k) 16) (t (16 * k + 16) || t (16 * k + 28)) e in
-    let marks = or-none (t (16 * k + 16)) (t (16 * k + 28)) (two .1) in
+    let bits = or-none (t (16 * k + 16)) (t (16 * k + 28)) (two .1) in
     let own = none-at t (16 * k) 16 (two .0) in
-    ap not (and-true (eqb (halfAt xs k) (halfAt ys k)) (sameMarks (halfAt xs (k + 1)) (halfAt ys (k + 1)))
-    (eq-eqb (halfAt xs k) (halfAt ys k) (word k own)) (both-marks k (marks .0) (marks .1)))
+    ap not (and-true (eqb (halfAt xs k) (halfAt ys k)) (sameStateBits (halfAt xs (k + 1)) (halfAt ys (k + 1)))
+    (eq-eqb (halfAt xs k) (halfAt ys k) (word k own)) (both-bits k (bits .0) (bits .1)))
   where
     word : (k : ℕ) → ((j : ℕ) → j < 16 → changed ys xs (16 * k + j) ≡ false) → halfAt xs k ≡ halfAt ys k
     word k own =
@@ -85,13 +86,27 @@ bits-touched ys xs by bx i e =
         (same-at ys xs by bx (2 * k) (λ j h. subst (λ (z : ℕ). changed ys xs z ≡ false) (omega arith) (own j (omega arith))))
         (same-at ys xs by bx (2 * k + 1) (λ j h. subst (λ (z : ℕ). changed ys xs z ≡ false) (omega arith) (own (8 + j) (omega arith))))
 
-    both-marks : (k : ℕ) → changed ys xs (16 * k + 16) ≡ false → changed ys xs (16 * k + 28) ≡ false → sameMarks (halfAt xs (k + 1)) (halfAt ys (k + 1)) ≡ true
-    both-marks k a b =
+    both-bits : (k : ℕ) → changed ys xs (16 * k + 16) ≡ false → changed ys xs (16 * k + 28) ≡ false → sameStateBits (halfAt xs (k + 1)) (halfAt ys (k + 1)) ≡ true
+    both-bits k a b =
         let f = halfAt xs (k + 1) in
         let g = halfAt ys (k + 1) in
         and-true (eqb (f / 32768 % 2) (g / 32768 % 2)) (eqb (f / 8 % 2) (g / 8 % 2))
-        (eq-eqb (f / 32768 % 2) (g / 32768 % 2) (mark-high xs bx k ∙ kept ys xs (16 * k + 16) a ∙ sym (mark-high ys by k)))
-        (eq-eqb (f / 8 % 2) (g / 8 % 2) (mark-low xs bx k ∙ kept ys xs (16 * k + 28) b ∙ sym (mark-low ys by k)))
+        (eq-eqb (f / 32768 % 2) (g / 32768 % 2) (half-bit-15 xs bx k ∙ kept ys xs (16 * k + 16) a ∙ sym (half-bit-15 ys by k)))
+        (eq-eqb (f / 8 % 2) (g / 8 % 2) (half-bit-3 xs bx k ∙ kept ys xs (16 * k + 28) b ∙ sym (half-bit-3 ys by k)))
+
+-- ---- nothing is touched where nothing was changed
+
+unchanged : (ys : List ℕ) (j : ℕ) → changed ys ys j ≡ false
+unfolding changed
+unchanged ys j = rw (eq-eqb (bitAt ys j) (bitAt ys j) refl)
+
+none-of : (t : ℕ → Bool) → ((j : ℕ) → t j ≡ false) → (k n : ℕ) → someFrom t k n ≡ false
+none-of t h k zero = refl
+none-of t h k (suc n) = rw (h k) (none-of t h (suc k) n)
+
+pub untouched : (ys : List ℕ) (i : ℕ) → touched ys ys i ≡ false
+unfolding touched
+untouched ys i = rw (none-of (changed ys ys) (unchanged ys) (16 * halfOf i) 16, unchanged ys (16 * halfOf i + 16)) (unchanged ys (16 * halfOf i + 28))
 
 -- ---- every half word of a permitted stream is 16 bits
 

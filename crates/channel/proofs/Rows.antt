@@ -1,33 +1,30 @@
--- A block's stream wherever it stands in a run (LaidBlock), after any damage: each byte that is not touched is read as it was (reading-any, reading), and a row
--- differs in at most its touched bytes (row-damage).
+-- A block's stream wherever it stands in a run (LaidBlock), after any damage: the word of a byte that is not touched is read as that byte (reading-any,
+-- reading-word), so that the byte is what it was (reading) and its word is known (reading-known).
 -- Assumes nothing.
-use mathlib.Core.Path.{_≡_, sym, subst, _∙_}
+use mathlib.Core.Path.{_≡_, sym, ap, subst}
 use mathlib.Core.Bool.{Bool, false}
 use mathlib.Core.List.{List, [], _∷_, _++_}
-use Prim.Native.Nat.{ℕ, _+_, _*_, _<_, _≤_}
-use native.Mathlib.Omega.{arith}
+use Prim.Native.Nat.{ℕ, _*_, _<_}
 use lib.Dec.{T}
 use lib.ListN.{length, getD}
 use Rattle.lists.specs.Bytes.{Bytes}
-use Rattle.lists.specs.Count.{countFrom, distance}
-use Rattle.lists.specs.Fill.{tabulateFrom}
-use Rattle.lists.proofs.Fill.{length-tabulateFrom, getD-tabulateFrom}
 use Rattle.annexg.specs.Read.{State}
-use Rattle.layout.specs.Lengths.{frameBytes, rowSize, rowCount, blockSize, blockFrames}
-use Rattle.channel.specs.Block.{frames, runItems, blockItems, readAt, touched, touchedIn}
+use Rattle.annexg.specs.declared.Reading.the-variants.{Byte}
+use Rattle.layout.specs.Lengths.{frameBytes, blockSize, blockFrames}
+use Rattle.channel.specs.Block.{frames, runItems, blockItems, readingAt, readingByte, readAt, isUnknown, unknownAt, touched}
 use Rattle.bytes.specs.Halves.{packed}
-use Rattle.layout.specs.Rows.{rowOf}
-use Rattle.layout.proofs.Places.{row-length, row-byte}
 use Rattle.channel.specs.Channel.{Item, sync, permitted, stream, allProper}
 use Rattle.channel.proofs.BitsTouched.{bits-touched, stream-bytes}
-use Rattle.channel.proofs.Damage.{reading-frames, distance-count}
+use Rattle.channel.proofs.Damage.{reading-frames}
 use Rattle.channel.proofs.Places.{proper-append, frames-proper}
 
--- READING. Frames from any State and after any half word, with an item after them, are laid by permitted choices, and any bytes xs are read instead: a byte
--- that is not touched is read as it was
+-- READING. Frames from any State and after any half word, with an item after them, are laid by permitted choices, and any bytes xs are read instead: the word of a
+-- byte that is not touched is read as that byte
 module _ (s l n g : ℕ) (bs : List ℕ) (i₀ : Item) (end : List Item) (cs : List Bool) (e : length bs ≡ frameBytes * n) (hb : Bytes bs) (he : T (allProper (i₀ ∷ end)))
     (hs : State s) (p : T (permitted s l (frames g n bs ++ i₀ ∷ end) cs)) where
-  pub reading-any : (xs : List ℕ) → Bytes xs → (i : ℕ) → i < frameBytes * n → touched (packed (stream s (frames g n bs ++ i₀ ∷ end) cs)) xs i ≡ false → readAt xs i ≡ getD bs i 0
+  pub reading-any :
+      (xs : List ℕ) → Bytes xs → (i : ℕ) → i < frameBytes * n → touched (packed (stream s (frames g n bs ++ i₀ ∷ end) cs)) xs i ≡ false
+      → readingAt xs i ≡ Byte (getD bs i 0)
   reading-any xs hx i hi t =
       let ys = packed (stream s (frames g n bs ++ i₀ ∷ end) cs) in
       let by = stream-bytes s l (frames g n bs ++ i₀ ∷ end) cs (proper-append (frames g n bs) (i₀ ∷ end) (frames-proper n g bs e hb) he) hs p in
@@ -58,23 +55,19 @@ laid-bytes {bs} {ys} m =
     subst Bytes (sym (m .is)) (stream-bytes (m .state) (m .last) items (m .choices) proper (m .is-state) (m .ok))
 
 module _ {bs ys : List ℕ} (m : LaidBlock bs ys) (xs : List ℕ) (hx : Bytes xs) where
-  -- READING in a block, at the place where the sector reader looks
-  pub reading : (i : ℕ) → i < blockSize → touched ys xs i ≡ false → readAt xs i ≡ getD bs i 0
+  -- READING in a block, at the place where the sector reader looks,
+  pub reading-word : (i : ℕ) → i < blockSize → touched ys xs i ≡ false → readingAt xs i ≡ Byte (getD bs i 0)
   unfolding runItems
-  reading i hi t =
+  reading-word i hi t =
       reading-any (m .state) (m .last) blockFrames 0 bs (sync 0) [] (m .choices) (m .size) (m .bytes) closing-proper (m .is-state) (m .ok) xs hx i hi
       (subst (λ (y : List ℕ). touched y xs i ≡ false) (m .is) t)
 
-  -- a row that is read differs from the row that was laid in at most its touched bytes
-  pub row-damage : (r : ℕ) → r < rowCount → distance (tabulateFrom (readAt xs) (r * rowSize) rowSize) (rowOf bs r) ≤ touchedIn ys xs r
-  unfolding touchedIn
-  row-damage r hr =
-      let n = length-tabulateFrom (readAt xs) (r * rowSize) rowSize in
-      subst (λ (k : ℕ). distance (tabulateFrom (readAt xs) (r * rowSize) rowSize) (rowOf bs r) ≤ countFrom (touched ys xs) (r * rowSize) k) n
-      (distance-count (tabulateFrom (readAt xs) (r * rowSize) rowSize) (rowOf bs r) (touched ys xs) (r * rowSize) (n ∙ sym (row-length bs r (m .size) hr)) alike)
-    where
-      alike : (i : ℕ) → i < length (tabulateFrom (readAt xs) (r * rowSize) rowSize) → touched ys xs (r * rowSize + i) ≡ false
-          → getD (tabulateFrom (readAt xs) (r * rowSize) rowSize) i 0 ≡ getD (rowOf bs r) i 0
-      alike i h t =
-          let k : i < rowSize = rw (length-tabulateFrom (readAt xs) (r * rowSize) rowSize) at h in
-          getD-tabulateFrom (readAt xs) (r * rowSize) rowSize i k ∙ reading (r * rowSize + i) (omega arith) t ∙ sym (row-byte bs r i k)
+  -- and so the byte is what it was,
+  pub reading : (i : ℕ) → i < blockSize → touched ys xs i ≡ false → readAt xs i ≡ getD bs i 0
+  unfolding readAt
+  reading i hi t = ap readingByte (reading-word i hi t)
+
+  -- and its word is known
+  pub reading-known : (i : ℕ) → i < blockSize → touched ys xs i ≡ false → unknownAt xs i ≡ false
+  unfolding unknownAt
+  reading-known i hi t = ap isUnknown (reading-word i hi t)

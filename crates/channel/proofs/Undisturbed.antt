@@ -1,28 +1,29 @@
 -- A block's stream as it was laid, anywhere in a run: every Code Word is known (word-known), and every SYNC place of its 416 frames holds a code of the number
 -- due there (SyncAt, sync-known).
 -- Assumes nothing.
-use mathlib.Core.Path.{_≡_, refl, sym, ap, ap₂, _∙_}
+use mathlib.Core.Path.{_≡_, refl, sym, ap, _∙_}
 use mathlib.Core.Bool.{Bool}
 use mathlib.Core.List.{List, [], _∷_, _++_, map, append-assoc}
-use Prim.Native.Nat.{ℕ, zero, suc, _+_, _*_, _/_, _%_, _<_}
+use Prim.Native.Nat.{ℕ, zero, suc, _+_, _*_, _<_}
 use native.Mathlib.Nat.{not-suc-le-zero, le-of-suc-le-suc}
 use native.Mathlib.Omega.{arith}
 use lib.Dec.{T}
 use lib.ListN.{length, getD, take, drop, length-append}
 use Rattle.lists.proofs.Test.{and-left, and-right}
-use Rattle.annexg.specs.Read.{State, readWord}
+use Rattle.annexg.specs.Read.{State}
 use Rattle.annexg.specs.Sync.{codeFor, syncEnd}
 use Rattle.annexg.specs.declared.Reading.the-variants.{Byte}
 use Rattle.layout.specs.Lengths.{frameBytes, frameHalves, blockSize, blockFrames}
 use Rattle.channel.specs.Channel.{Item, sync, byte, nextFor, lastFor, allowed, permitted, stream, place, proper, allProper}
-use Rattle.layout.specs.Sectors.{codeOf, halfOf}
-use Rattle.channel.specs.Block.{frames, runItems}
+use Rattle.layout.specs.Sectors.{codeOf}
+use Rattle.channel.specs.Block.{frames, runItems, readingAt}
 use Rattle.bytes.specs.Halves.{halfAt}
-use Rattle.channel.proofs.Places.{place-past, head-length, tail-length, frame-place, frame-item, frames-length, proper-append, frames-proper}
-use Rattle.channel.proofs.Reading.{next-state, reads}
+use Rattle.channel.proofs.Places.{place-past, head-length, tail-length, frames-length, proper-append, frames-proper}
+use Rattle.channel.proofs.Reading.{next-state}
 use Rattle.bytes.proofs.Halves.{half-packed}
 use Rattle.channel.proofs.Order.{frame-sync}
-use Rattle.channel.proofs.Rows.{LaidBlock}
+use Rattle.channel.proofs.BitsTouched.{untouched}
+use Rattle.channel.proofs.Rows.{LaidBlock, laid-bytes, reading-word}
 
 -- ---- the SYNC Code of frame f among the items
 
@@ -92,20 +93,8 @@ module _ {bs ys : List ℕ} (m : LaidBlock bs ys) where
   unfolding runItems
   laid-half k = ap (λ (y : List ℕ). halfAt y k) (m .is) ∙ half-packed laid k
 
-  pub word-known : (i : ℕ) → i < blockSize → readWord (halfAt ys (halfOf i)) (halfAt ys (halfOf i + 1)) ≡ Byte (getD bs i 0)
-  unfolding runItems
-  word-known i h =
-      let f = i / frameBytes in
-      let q = i % frameBytes in
-      let hf : f < blockFrames = omega arith in
-      let hq : q < frameBytes = omega arith in
-      let at-half : place items (92 * f + suc q) ≡ halfOf i = frame-place blockFrames 0 bs (sync 0 ∷ []) (m .size) f q hf hq ∙ omega arith in
-      let at-next : suc (place items (92 * f + suc q)) ≡ halfOf i + 1 = ap suc at-half ∙ omega arith in
-      let the-byte : getD items (92 * f + suc q) (sync 0) ≡ byte (getD bs i 0) =
-      frame-item blockFrames 0 bs (sync 0 ∷ []) (m .size) f q hf hq ∙ ap (λ (x : ℕ). byte (getD bs x 0)) (omega arith) in
-      ap₂ readWord (laid-half (halfOf i) ∙ ap (λ (x : ℕ). getD laid x 0) (sym at-half)) (laid-half (halfOf i + 1) ∙ ap (λ (x : ℕ). getD laid x 0) (sym at-next))
-      ∙ reads (m .state) (m .last) items (m .choices) all (m .is-state) (m .ok) (92 * f + suc q) (getD bs i 0) (omega (arith, long)) the-byte
-      (getD laid (suc (place items (92 * f + suc q))) 0) refl
+  pub word-known : (i : ℕ) → i < blockSize → readingAt ys i ≡ Byte (getD bs i 0)
+  word-known i h = reading-word m ys (laid-bytes m) i h (untouched ys i)
 
   pub sync-known : (f : ℕ) → f < blockFrames → SyncAt (codeOf f) (halfAt ys (frameHalves * f)) (halfAt ys (frameHalves * f + 1))
   unfolding runItems

@@ -1,22 +1,21 @@
 -- The items of a sector, a run and a block, the permitted streams (runItems, permittedRun, runStream; of one block permittedChoices, permittedStream), the bytes
--- that are read (readSector, readBlock), and what damage touches (touched, heavyRows).
--- "Permitted stream", "touched" and "heavy row" are the project's own terms.
+-- and the marks that are read (readSector, erasuresOfSector, readBlock, erasuresOfBlock), and what damage touches (touched, heavyRows, overloadedRows).
+-- "Permitted stream", "touched", "heavy row" and "overloaded row" are the project's own terms.
 -- Assumes nothing.
 use mathlib.Core.Path.{_≡_}
-use mathlib.Core.Bool.{Bool, false, not, _||_}
+use mathlib.Core.Bool.{Bool, true, false, not, _&&_, _||_}
 use mathlib.Core.List.{List, [], _∷_, _++_, map}
 use Prim.Native.Nat.{ℕ, zero, suc, _+_, _*_}
 use lib.Dec.{eqb, ltb}
 use lib.ListN.{length, take, drop}
 use Rattle.lists.specs.Bytes.{Bytes}
 use Rattle.lists.specs.Fill.{tabulate}
-use Rattle.lists.specs.Count.{countFrom, distance}
+use Rattle.lists.specs.Count.{bit, countFrom}
 use Rattle.annexg.specs.Read.{readWord}
 use Rattle.annexg.specs.declared.Reading.{Reading}
 use Rattle.annexg.specs.declared.Reading.the-variants.{Byte, Unknown}
 use Rattle.bytes.specs.Halves.{packed, halfAt, bitAt}
 use Rattle.layout.specs.Lengths.{frameBytes, sectorFrames, blockFrames, sectorCount, sectorSize, rowCount, rowSize, blockSize}
-use Rattle.layout.specs.Rows.{rowOf}
 use Rattle.layout.specs.Sectors.{codeOf, halfOf, sectorPart}
 use Rattle.channel.specs.Channel.{Item, sync, byte, stream, permitted}
 
@@ -64,29 +63,49 @@ permittedStream b cs = runStream (b ∷ []) cs
 
 -- ---- reading
 
--- an unknown word gives byte 0
+-- what the Code Word of byte i of a stream is read as, with the half word after it
+abbrev pub readingAt : List ℕ → ℕ → Reading
+readingAt xs i = readWord (halfAt xs (halfOf i)) (halfAt xs (halfOf i + 1))
+
+-- the byte that is read: an unknown word gives byte 0
 abbrev pub readingByte : Reading → ℕ
 readingByte (Byte b) = b
 readingByte Unknown = 0
 
--- what is read as byte i of a stream, with the half word after its Code Word
 unfoldable pub readAt : List ℕ → ℕ → ℕ
-readAt xs i = readingByte (readWord (halfAt xs (halfOf i)) (halfAt xs (halfOf i + 1)))
+readAt xs i = readingByte (readingAt xs i)
+
+-- whether the word is unknown
+abbrev pub isUnknown : Reading → Bool
+isUnknown (Byte b) = false
+isUnknown Unknown = true
+
+unfoldable pub unknownAt : List ℕ → ℕ → Bool
+unknownAt xs i = isUnknown (readingAt xs i)
 
 -- the sector reader's 2,366 bytes of a sector and the two bytes after it
 abbrev pub readSector : List ℕ → List ℕ
 readSector xs = tabulate (readAt xs) sectorSize
 
--- the answers for n sectors from sector k on, one after the other
-unfoldable pub readSectors : List ℕ → ℕ → ℕ → List ℕ
-readSectors xs k zero = []
-readSectors xs k (suc n) = readSector (sectorPart xs k) ++ readSectors xs (suc k) n
+-- and its 2,366 marks, '1 for an unknown word and 0 otherwise' (document 02, request 2). The field's word for a marked byte is an erasure
+abbrev pub erasuresOfSector : List ℕ → List ℕ
+erasuresOfSector xs = tabulate (λ i. bit (unknownAt xs i)) sectorSize
 
+-- what f gives of each of n sectors of a stream from sector k on, with the two bytes after it, one after the other
+unfoldable pub eachSector : (List ℕ → List ℕ) → List ℕ → ℕ → ℕ → List ℕ
+eachSector f xs k zero = []
+eachSector f xs k (suc n) = f (sectorPart xs k) ++ eachSector f xs (suc k) n
+
+-- the bytes and the marks of a block: of its sixteen sectors
 abbrev pub readBlock : List ℕ → List ℕ
-readBlock xs = readSectors xs 0 sectorCount
+readBlock xs = eachSector readSector xs 0 sectorCount
+
+abbrev pub erasuresOfBlock : List ℕ → List ℕ
+erasuresOfBlock xs = eachSector erasuresOfSector xs 0 sectorCount
 
 -- ---- damage: the stream ys was laid, and xs is read
 
+-- bit j that is read is another than was laid
 unfoldable pub changed : List ℕ → List ℕ → ℕ → Bool
 changed ys xs j = not (eqb (bitAt xs j) (bitAt ys j))
 
@@ -109,6 +128,18 @@ touchedIn ys xs r = countFrom (touched ys xs) (r * rowSize) rowSize
 unfoldable pub heavyRows : List ℕ → List ℕ → ℕ
 heavyRows ys xs = countFrom (λ r. ltb 5 (touchedIn ys xs r)) 0 rowCount
 
--- how many rows of a block differ from another block's in more than five bytes
-unfoldable pub farRows : List ℕ → List ℕ → ℕ
-farRows xs bs = countFrom (λ r. ltb 5 (distance (rowOf xs r) (rowOf bs r))) 0 rowCount
+-- f of a row: how many of its words are unknown as they are read
+unfoldable pub unknownIn : List ℕ → ℕ → ℕ
+unknownIn xs r = countFrom (unknownAt xs) (r * rowSize) rowSize
+
+-- e of a row: how many of its other bytes are touched
+unfoldable pub touchedKnownIn : List ℕ → List ℕ → ℕ → ℕ
+touchedKnownIn ys xs r = countFrom (λ i. not (unknownAt xs i) && touched ys xs i) (r * rowSize) rowSize
+
+-- row r is overloaded: 2e + f is over the ten of the row repair's rule (document 02, request 2)
+abbrev pub overloaded : List ℕ → List ℕ → ℕ → Bool
+overloaded ys xs r = ltb 10 (2 * touchedKnownIn ys xs r + unknownIn xs r)
+
+-- how many rows are overloaded
+unfoldable pub overloadedRows : List ℕ → List ℕ → ℕ
+overloadedRows ys xs = countFrom (overloaded ys xs) 0 rowCount

@@ -5,8 +5,10 @@ pub mod Division
 pub mod Shift
 pub mod Product
 pub mod Nearest
+pub mod Erasures
 pub mod Roots
 pub mod Elimination
 pub mod Values
+pub mod Marked
 pub mod Mended
 pub mod Decision

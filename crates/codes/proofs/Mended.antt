@@ -1,32 +1,33 @@
--- Completeness and soundness of the decoder: a word within t bytes of a code word is mended to it, and a mended word differs in at most t bytes.
+-- Completeness and soundness of the decoder: a word that a code word is within reach of is mended to it (mended-within), and a mended word differs in at most as
+-- many unmarked bytes as the locator has roots (mended-errors).
 -- Assumes nothing.
-use mathlib.Core.Path.{_≡_, refl, sym, ap, ap₂, _∙_}
-use mathlib.Core.Bool.{not}
+use mathlib.Core.Path.{_≡_, refl, sym, ap, ap₂, subst, _∙_}
+use mathlib.Core.Bool.{Bool, true, false, false≢true, not, _&&_, _||_}
 use mathlib.Core.List.{List, [], _∷_, map}
-use mathlib.Core.Logic.{dite}
 use Prim.Native.Nat.{ℕ, zero, suc, _+_, _-_, _<_, _≤_}
-use native.Mathlib.Decide.{ℕ-discrete}
 use native.Mathlib.Omega.{arith}
 use borrow.Author.Tests.{eq-eqb}
-use lib.Dec.{eqb}
+use lib.Dec.{T, eqb}
 use lib.ListN.{length, getD, set, drop, length-map, length-set, drop-of-length-le}
-use lib.Seq.{drop-cons}
+use lib.Seq.{drop-cons, getD-set-other}
 use Rattle.lists.specs.Bytes.{Bytes}
-use Rattle.lists.specs.Count.{distance}
+use Rattle.lists.specs.Count.{countFrom}
 use Rattle.lists.proofs.Bytes.{getD-byte, set-bytes}
-use Rattle.lists.proofs.Count.{bit-le, distance-self}
+use Rattle.lists.proofs.Count.{count-order}
+use Rattle.lists.proofs.Test.{and-right}
 use Rattle.field.specs.Field.{add, mul, pow, inverse}
-use Rattle.field.proofs.Field.{add-zero, zero-add, add-cancel, add-lt, mul-lt, zero-mul, zero-of-mul}
+use Rattle.field.proofs.Field.{add-zero, zero-add, add-cancel, add-lt, mul-lt, zero-mul}
 use Rattle.field.proofs.Powers.{alpha-lt}
 use Rattle.codes.specs.Word.{syndrome}
 use Rattle.codes.specs.Parity.{addWords}
-use Rattle.codes.specs.Inner.{dot, polyAt, Locator, rootPlaces, withoutOthers, spread, errorValue, change, mendFrom, mended}
+use Rattle.codes.specs.Erasures.{isErased, erasureCount, errorCount}
+use Rattle.codes.specs.Inner.{NonZero, Locator, erasedPlace, withoutMarked, isRoot, isSuspect, placesWhere, withoutOthers, spread, errorValue, change, mendFrom, mended}
 use Rattle.codes.proofs.Vandermonde.{Err, sum, All, Small}
-use Rattle.codes.proofs.Words.{errs, syndrome-cons, syndrome-nil, syndrome-errs, errs-length, errs-small, errs-distinct, syndrome-add, addWords-length, addWords-bytes}
-use Rattle.codes.proofs.KeyEquation.{roots}
-use Rattle.codes.proofs.Roots.{polyAt-lt, lead-nonzero, roots-hit, roots-miss, roots-few}
-use Rattle.codes.proofs.Values.{roots-descending, value-right}
-use Rattle.codes.proofs.Nearest.{Near, distance-weight, distance-triangle}
+use Rattle.codes.proofs.Words.{syndrome-cons, syndrome-nil, syndrome-add, addWords-length, addWords-bytes}
+use Rattle.codes.proofs.Roots.{lead-nonzero, roots-few, places-hit, places-miss, places-count, places-total, places-pass, erased-places, suspects-few}
+use Rattle.codes.proofs.Values.{places-descending, descending-at, value-right}
+use Rattle.codes.proofs.Erasures.{Within}
+use Rattle.codes.proofs.Marked.{Covered, marked-covered}
 
 -- ---- what the search finds in the word of errors
 
@@ -44,38 +45,35 @@ place p = p .place
 abbrev byte : Spot → ℕ
 byte p = p .byte
 
--- In the word, each place at which the polynomial c is 0 is found, with its byte, and every byte that is passed over is 0.
-data Found (c : List ℕ) : List ℕ → List Spot → Type 0 where
-  none : Found c [] []
-  hit : {r : List ℕ} {b : ℕ} {ps : List Spot} → polyAt c (pow 2 (length r)) ≡ 0 → Found c r ps → Found c (b ∷ r) (record { place = length r; byte = b } ∷ ps)
-  miss : {r : List ℕ} {ps : List Spot} → (polyAt c (pow 2 (length r)) ≡ 0 → ⊥) → Found c r ps → Found c (0 ∷ r) ps
+-- In the word, each place that passes the test t is found, with its byte, and every byte that is passed over is 0.
+data Found (t : ℕ → Bool) : List ℕ → List Spot → Type 0 where
+  none : Found t [] []
+  hit : {r : List ℕ} {b : ℕ} {ps : List Spot} → t (length r) ≡ true → Found t r ps → Found t (b ∷ r) (record { place = length r; byte = b } ∷ ps)
+  miss : {r : List ℕ} {ps : List Spot} → t (length r) ≡ false → Found t r ps → Found t (0 ∷ r) ps
 
-abbrev Root : List ℕ → Err → Type 0
-Root c e = polyAt c (e .loc) ≡ 0
-
-find : (c d : List ℕ) → All (Root c) (errs d) → (ps : List Spot) × Found c d ps
-unfolding errs
-find c [] a = ([], none)
-find c (zero ∷ r) a = go (find c r a)
+find : (t : ℕ → Bool) (d : List ℕ) → Covered t d → (ps : List Spot) × Found t d ps
+find t [] a = ([], none)
+find t (zero ∷ r) a = go (t (length r)) refl (find t r a)
   where
-    go : (ps : List Spot) × Found c r ps → (ps : List Spot) × Found c (0 ∷ r) ps
-    go f = dite (ℕ-discrete (polyAt c (pow 2 (length r))) 0) (λ e. (record { place = length r; byte = 0 } ∷ f .0, hit e (f .1))) (λ e. (f .0, miss e (f .1)))
-find c (suc b ∷ r) a =
-    let f : (ps : List Spot) × Found c r ps = find c r (a .1) in
+    go : (b : Bool) → t (length r) ≡ b → (ps : List Spot) × Found t r ps → (ps : List Spot) × Found t (0 ∷ r) ps
+    go true e f = (record { place = length r; byte = 0 } ∷ f .0, hit e (f .1))
+    go false e f = (f .0, miss e (f .1))
+find t (suc b ∷ r) a =
+    let f : (ps : List Spot) × Found t r ps = find t r (a .1) in
     (record { place = length r; byte = suc b } ∷ f .0, hit (a .0) (f .1))
 
-found-places : {c d : List ℕ} {ps : List Spot} → Found c d ps → rootPlaces c (length d) ≡ map place ps
-found-places {c} none = unfold rootPlaces in refl
-found-places {c} (hit {r = r} e f) = roots-hit c (length r) e ∙ ap {B = List ℕ} (λ ks. length r ∷ ks) (found-places f)
-found-places {c} (miss {r = r} e f) = roots-miss c (length r) e ∙ found-places f
+found-places : {t : ℕ → Bool} {d : List ℕ} {ps : List Spot} → Found t d ps → placesWhere t (length d) ≡ map place ps
+found-places {t} none = unfold placesWhere in refl
+found-places {t} (hit {r = r} e f) = places-hit t (length r) e ∙ ap {B = List ℕ} (λ ks. length r ∷ ks) (found-places f)
+found-places {t} (miss {r = r} e f) = places-miss t (length r) e ∙ found-places f
 
-found-sum : {c d : List ℕ} {ps : List Spot} → Found c d ps → Bytes d → (i : ℕ) → syndrome d i ≡ sum (map err ps) i
+found-sum : {t : ℕ → Bool} {d : List ℕ} {ps : List Spot} → Found t d ps → Bytes d → (i : ℕ) → syndrome d i ≡ sum (map err ps) i
 unfolding sum Bytes
 found-sum none h i = syndrome-nil i
 found-sum (hit {r = r} {b = b} e f) h i = syndrome-cons b r h i ∙ ap (add (mul b (pow (pow 2 (length r)) i))) (found-sum f (h .1) i)
 found-sum (miss {r = r} e f) h i = syndrome-cons 0 r h i ∙ ap₂ add (zero-mul (pow (pow 2 (length r)) i)) (found-sum f (h .1) i) ∙ zero-add _
 
-found-small : {c d : List ℕ} {ps : List Spot} → Found c d ps → Bytes d → All Small (map err ps)
+found-small : {t : ℕ → Bool} {d : List ℕ} {ps : List Spot} → Found t d ps → Bytes d → All Small (map err ps)
 unfolding Bytes
 found-small none h = tt
 found-small (hit {r = r} e f) h = ((alpha-lt (length r), h .0), found-small f (h .1))
@@ -93,7 +91,7 @@ Below : ℕ → List ℕ → Type 0
 Below n [] = Unit {0}
 Below n (k ∷ ks) = (k < n) × Below n ks
 
-found-below : {c d : List ℕ} {ps : List Spot} → Found c d ps → (n : ℕ) → length d ≤ n → Below n (map place ps)
+found-below : {t : ℕ → Bool} {d : List ℕ} {ps : List Spot} → Found t d ps → (n : ℕ) → length d ≤ n → Below n (map place ps)
 unfolding Below
 found-below none n l = tt
 found-below (hit {r = r} e f) n l = (l, found-below f n (omega arith))
@@ -122,7 +120,7 @@ patch-rest (k ∷ ks) [] a r h = refl
 patch-rest (k ∷ ks) (v ∷ vs) a r h =
     ap (λ (x : List ℕ). patch x ks vs) (change-rest a r k v (h .0)) ∙ patch-rest ks vs a (change r k v) (rw (change-length r k v) (h .1))
 
-found-patch : {c d : List ℕ} {ps : List Spot} → Found c d ps → (r : List ℕ) → length r ≡ length d → patch r (map place ps) (map byte ps) ≡ addWords r d
+found-patch : {t : ℕ → Bool} {d : List ℕ} {ps : List Spot} → Found t d ps → (r : List ℕ) → length r ≡ length d → patch r (map place ps) (map byte ps) ≡ addWords r d
 unfolding patch addWords
 found-patch none [] l = refl
 found-patch none (a ∷ r) l = absurd (omega arith)
@@ -150,19 +148,6 @@ mend-patch S ks vs l h (suc n) j e w =
 
 -- ---- completeness
 
-dot-agree : (c : List ℕ) (S R : ℕ → ℕ) (i : ℕ) → ((j : ℕ) → j < i + length c → S j ≡ R j) → dot c S i ≡ dot c R i
-unfolding dot
-dot-agree [] S R i h = refl
-dot-agree (c ∷ cs) S R i h = ap₂ add (ap (mul c) (h i (omega arith))) (dot-agree cs S R (suc i) (λ j l. h j (omega arith)))
-
--- a value that is not 0 leaves the root
-errs-roots : (c d : List ℕ) → Bytes c → Bytes d → All (λ e. mul (e .val) (polyAt c (e .loc)) ≡ 0) (errs d) → All (λ e. polyAt c (e .loc) ≡ 0) (errs d)
-unfolding errs Bytes
-errs-roots c [] h k a = tt
-errs-roots c (zero ∷ r) h k a = errs-roots c r h (k .1) a
-errs-roots c (suc b ∷ r) h k a =
-    (zero-of-mul (suc b) (polyAt c (pow 2 (length r))) (k .0) (polyAt-lt c (pow 2 (length r)) h) (λ z. omega (arith, z)) (a .0), errs-roots c r h (k .1) (a .1))
-
 addWords-back : (r s : List ℕ) → length r ≡ length s → addWords r (addWords r s) ≡ s
 unfolding addWords
 addWords-back [] [] l = refl
@@ -183,67 +168,62 @@ spot-val [] m = refl
 spot-val (p ∷ ps) zero = refl
 spot-val (p ∷ ps) (suc m) = spot-val ps m
 
-module _ (p t : ℕ) (w c : List ℕ) (hw : Bytes w) (short : length w ≤ 255) (room : t + t ≤ p) (near : Near p t w c)
-    (S : ℕ → ℕ) (synd : (i : ℕ) → i < p → S i ≡ syndrome w i) (q : List ℕ) (hq : Bytes q) (loc : Locator S t q) where
+-- c is the code word within reach of w, and t the most errors that can be located beside the marks
+module _ (p t : ℕ) (m w c : List ℕ) (hw : Bytes w) (sized : length m ≡ length w) (short : length w ≤ 255) (within : Within p m w c)
+    (room : t + t + erasureCount m (length w) ≤ p) (wide : p ≤ t + t + erasureCount m (length w) + 1)
+    (S : ℕ → ℕ) (synd : (i : ℕ) → i < p → S i ≡ syndrome w i) (q : List ℕ) (hq : Bytes q) (loc : Locator (withoutMarked (erasedPlace m) (length m) S) t q) where
   abbrev d : List ℕ
   d = addWords w c
 
   hd : Bytes d
-  hd = addWords-bytes w c hw (near .bytes)
+  hd = addWords-bytes w c hw (within .bytes)
 
   ld : length d ≡ length w
-  ld = addWords-length w c (near .len)
+  ld = addWords-length w c (within .len)
 
   -- the syndromes of the word are those of its errors
   same-sum : (i : ℕ) → i < p → S i ≡ syndrome d i
-  same-sum i l = synd i l ∙ sym (syndrome-add w c (near .len) i ∙ ap (add (syndrome w i)) (near .code i l) ∙ add-zero (syndrome w i))
+  same-sum i l = synd i l ∙ sym (syndrome-add w c (within .len) i ∙ ap (add (syndrome w i)) (within .code i l) ∙ add-zero (syndrome w i))
 
-  all-roots : All (Root q) (errs d)
-  all-roots =
-      errs-roots q d hq hd
-      (roots t q (errs d) (omega (arith, errs-length d, distance-weight w c (near .len), near .close)) (errs-small d hd) (errs-distinct d (omega (arith, ld)))
-      (λ i l. sym (dot-agree q S (sum (errs d)) i (λ j m. same-sum j (omega (arith, loc .size)) ∙ syndrome-errs d hd j)) ∙ loc .zeros i l))
+  marks : countFrom (erasedPlace m) 0 (length m) ≡ erasureCount m (length w)
+  marks = sym (places-total (erasedPlace m) (length m)) ∙ erased-places m ∙ ap (erasureCount m) sized
 
-  found : (ps : List Spot) × Found q d ps
-  found = find q d all-roots
+  found : (ps : List Spot) × Found (isSuspect m q) d ps
+  found =
+      find (isSuspect m q) d
+      (marked-covered t m w c sized (within .len) short (omega (arith, within .close, wide)) hd S (λ i l. same-sum i (omega (arith, l, marks, room))) q hq loc)
 
   abbrev ks : List ℕ
-  ks = rootPlaces q (length w)
+  ks = placesWhere (isSuspect m q) (length m)
 
   at-spots : ks ≡ map place (found .0)
-  at-spots = ap (rootPlaces q) (sym ld) ∙ found-places (found .1)
+  at-spots = ap (placesWhere (isSuspect m q)) (sized ∙ sym ld) ∙ found-places (found .1)
 
-  few : length ks ≤ t
-  few = omega (arith, roots-few (length w) q hq short (lead-nonzero q (loc .some)), loc .size)
+  few : length ks ≤ p
+  few = omega (arith, suspects-few m q hq (omega arith) (loc .some), ap (erasureCount m) sized, loc .size, room)
 
-  right : (m : ℕ) → m < length ks → errorValue S ks m ≡ getD (map byte (found .0)) m 0
-  right m l =
+  right : (j : ℕ) → j < length ks → errorValue S ks j ≡ getD (map byte (found .0)) j 0
+  right j l =
       let ps : List Spot = found .0 in
       let n : length (map err ps) ≡ length ks = length-map ps err ∙ sym (length-map ps place) ∙ sym (ap length at-spots) in
-      value-right (length w) ks m short (roots-descending q (length w)) l (map err ps) S n
+      value-right (length m) ks j (omega arith) (places-descending (isSuspect m q) (length m)) l (map err ps) S n
       (λ i h. spot-loc ps i h ∙ ap (λ (x : List ℕ). pow 2 (getD x i 0)) (sym at-spots)) (found-small (found .1) hd)
       (λ i h. same-sum i (omega (arith, few)) ∙ found-sum (found .1) hd i)
-      ∙ spot-val ps m
+      ∙ spot-val ps j
 
   -- the decoder gives the code word
-  pub mended-near : mended S ks w ≡ c
+  pub mended-within : mended S ks w ≡ c
   unfolding mended
-  mended-near =
+  mended-within =
       let ps : List Spot = found .0 in
       mend-patch S ks (map byte ps) (length-map ps byte ∙ sym (length-map ps place) ∙ sym (ap length at-spots)) right (length ks) 0 (omega arith) w
-      ∙ ap (λ (x : List ℕ). patch w x (map byte ps)) at-spots ∙ found-patch (found .1) w (sym ld) ∙ addWords-back w c (near .len)
+      ∙ ap (λ (x : List ℕ). patch w x (map byte ps)) at-spots ∙ found-patch (found .1) w (sym ld) ∙ addWords-back w c (within .len)
 
--- ---- soundness: a mended word is a word of as many bytes, and differs in at most as many as there are places
+-- ---- soundness: a mended word is a word of as many bytes, and differs at the places that were found only
 
 value-lt : (S : ℕ → ℕ) (ks : List ℕ) (j : ℕ) → errorValue S ks j < 256
 unfolding errorValue
 value-lt S ks j = mul-lt (withoutOthers ks j (length ks) S 0) (inverse (spread ks j (length ks) (pow 2 (getD ks j 0))))
-
-set-distance : (r : List ℕ) (i v : ℕ) → distance r (set r i v) ≤ 1
-unfolding distance
-set-distance [] i v = omega arith
-set-distance (a ∷ r) zero v = omega (arith, distance-self r, bit-le (not (eqb a v)))
-set-distance (a ∷ r) (suc i) v = rw (eq-eqb a a refl) (omega (arith, set-distance r i v))
 
 mend-length : (S : ℕ → ℕ) (ks : List ℕ) (n j : ℕ) (w : List ℕ) → length (mendFrom S ks j n w) ≡ length w
 unfolding mendFrom
@@ -259,20 +239,19 @@ mend-bytes S ks (suc n) j w h =
     mend-bytes S ks n (suc j) (set w i (add (getD w i 0) (errorValue S ks j)))
     (set-bytes w i (add (getD w i 0) (errorValue S ks j)) h (add-lt (getD-byte w i h) (value-lt S ks j)))
 
-mend-distance : (S : ℕ → ℕ) (ks : List ℕ) (n j : ℕ) (w : List ℕ) → distance w (mendFrom S ks j n w) ≤ n
+-- byte i is none of those at the places ks
+mend-elsewhere : (S : ℕ → ℕ) (ks : List ℕ) (n j : ℕ) (w : List ℕ) (i : ℕ) → j + n ≤ length ks
+    → ((l : ℕ) → l < length ks → length w - suc (getD ks l 0) ≡ i → ⊥) → getD (mendFrom S ks j n w) i 0 ≡ getD w i 0
 unfolding mendFrom
-mend-distance S ks zero j w = omega (arith, distance-self w)
-mend-distance S ks (suc n) j w =
+mend-elsewhere S ks zero j w i h apart = refl
+mend-elsewhere S ks (suc n) j w i h apart =
     let u : List ℕ = change w (getD ks j 0) (errorValue S ks j) in
-    omega (
-      arith,
-      distance-triangle w (mendFrom S ks (suc j) n u) u (sym (change-length w (getD ks j 0) (errorValue S ks j))) (sym (mend-length S ks n (suc j) u)),
-      changed w (getD ks j 0) (errorValue S ks j),
-      mend-distance S ks n (suc j) u,
-    )
+    mend-elsewhere S ks n (suc j) u i (omega arith)
+    (λ l k e. apart l k (ap (λ (x : ℕ). x - suc (getD ks l 0)) (sym (change-length w (getD ks j 0) (errorValue S ks j))) ∙ e))
+    ∙ changed w (getD ks j 0) (errorValue S ks j) (apart j (omega arith))
   where
-    changed : (w : List ℕ) (k v : ℕ) → distance w (change w k v) ≤ 1
-    changed w k v = unfold change in set-distance w (length w - suc k) (add (getD w (length w - suc k) 0) v)
+    changed : (w : List ℕ) (k v : ℕ) → (length w - suc k ≡ i → ⊥) → getD (change w k v) i 0 ≡ getD w i 0
+    changed w k v ne = unfold change in getD-set-other w (length w - suc k) i (add (getD w (length w - suc k) 0) v) 0 (λ e. ne (sym e))
 
 module _ (S : ℕ → ℕ) (ks w : List ℕ) where
   pub mended-length : length (mended S ks w) ≡ length w
@@ -283,6 +262,45 @@ module _ (S : ℕ → ℕ) (ks w : List ℕ) where
   unfolding mended
   mended-bytes = mend-bytes S ks (length ks) 0 w
 
-  pub mended-distance : distance w (mended S ks w) ≤ length ks
-  unfolding mended
-  mended-distance = mend-distance S ks (length ks) 0 w
+-- at most as many unmarked bytes differ as the polynomial has roots
+pub mended-errors : (S : ℕ → ℕ) (m q w : List ℕ) → length m ≡ length w → length w ≤ 255 → Bytes q → (t : ℕ) → length q ≡ t + 1 → NonZero q
+    → errorCount m w (mended S (placesWhere (isSuspect m q) (length m)) w) ≤ t
+unfolding errorCount
+mended-errors S m q w sized short hq t size some =
+    omega (
+      arith,
+      count-order (λ i. not (isErased m i) && not (eqb (getD w i 0) (getD c i 0))) (λ i. isRoot q (length m - suc i)) 0 (length w) root,
+      ap (countFrom (λ i. isRoot q (length m - suc i)) 0) (sym sized),
+      sym (places-count (isRoot q) (length m)),
+      roots-few (length m) q hq (omega arith) (lead-nonzero q some),
+      size,
+    )
+  where
+    ks : List ℕ
+    ks = placesWhere (isSuspect m q) (length m)
+
+    c : List ℕ
+    c = mended S ks w
+
+    -- a place that is neither marked nor a root stays
+    stays : (i : ℕ) → i < length w → isSuspect m q (length m - suc i) ≡ false → getD c i 0 ≡ getD w i 0
+    stays i l e =
+        unfold mended in
+        mend-elsewhere S ks (length ks) 0 w i (omega arith)
+        (λ j h z.
+        let k : getD ks j 0 < length m = descending-at (length m) ks j (places-descending (isSuspect m q) (length m)) h in
+        let y : getD ks j 0 ≡ length m - suc i = omega (arith, k, z, sized) in
+        false≢true (sym e ∙ ap (isSuspect m q) (sym y) ∙ places-pass (isSuspect m q) (length m) j h))
+
+    root : (i : ℕ) → i < 0 + length w → T (not (isErased m i) && not (eqb (getD w i 0) (getD c i 0))) → T (isRoot q (length m - suc i))
+    root i l h = go (isErased m i) refl (isRoot q (length m - suc i)) refl
+      where
+        back : length m - suc (length m - suc i) ≡ i
+        back = omega arith
+
+        go : (a : Bool) → isErased m i ≡ a → (b : Bool) → isRoot q (length m - suc i) ≡ b → T b
+        go a e true f = tt
+        go true e false f = absurd (subst (λ (x : Bool). T (not x && not (eqb (getD w i 0) (getD c i 0)))) e h)
+        go false e false f =
+            absurd (subst (λ (x : Bool). T (not x)) (eq-eqb (getD w i 0) (getD c i 0) (sym (stays i (omega arith) (ap₂ _||_ (ap (isErased m) back ∙ e) f))))
+            (and-right (not (isErased m i)) (not (eqb (getD w i 0) (getD c i 0))) h))

@@ -147,6 +147,29 @@ first-of t n w (more {c} {ws} k h) = go (t c) refl (first-of t n w h)
     go true e r = found k (subst T (sym e) tt)
     go false e r = carry e r
 
+-- d is a word of as many bytes as w that passes the test t, or it is w and no word of as many bytes passes
+pub data Chosen (t : List ℕ → Bool) (w : List ℕ) : List ℕ → Type 0 where
+  chosen : {c : List ℕ} → Bytes c → length c ≡ length w → T (t c) → Chosen t w c
+  kept : ((c : List ℕ) → Bytes c → length c ≡ length w → t c ≡ false) → Chosen t w w
+
+pub first-chosen : (t : List ℕ → Bool) (w : List ℕ) → Chosen t w (firstOf t w (allWords (length w)))
+unfolding Word
+first-chosen t w = go (first-of t (length w) w (all-words (length w)))
+  where
+    go : {d : List ℕ} → First t (length w) w (allWords (length w)) d → Chosen t w d
+    go (found {c} k h) = chosen (k .0) (k .1) h
+    go (nothing f) = kept (λ c h l. f c (subst (λ (n : ℕ). In c (allWords n)) l (in-all c h)))
+
+-- tests that agree on the words of as many bytes choose the same
+pub same-chosen : (s t : List ℕ → Bool) (w : List ℕ) → ((c : List ℕ) → length c ≡ length w → s c ≡ t c)
+    → firstOf s w (allWords (length w)) ≡ firstOf t w (allWords (length w))
+unfolding Word firstOf
+same-chosen s t w agree = go (all-words (length w))
+  where
+    go : {ws : List (List ℕ)} → Words (length w) ws → firstOf s w ws ≡ firstOf t w ws
+    go none = refl
+    go (more {c} {ws} k h) = ap₂ (λ (b : Bool) (r : List ℕ). elim b [ true ↦ c | false ↦ r ]) (agree c (k .1)) (go h)
+
 -- ---- the nearest code word
 
 -- c is a code word with p roots that differs from w in at most t bytes
@@ -157,11 +180,11 @@ pub record Near (p t : ℕ) (w c : List ℕ) : Type 0 where
   pub close : distance w c ≤ t
 
 module _ (p t : ℕ) (w : List ℕ) (hw : Bytes w) where
-  test-near : (c : List ℕ) → Word (length w) c → T (isNear p t w c) → Near p t w c
-  unfolding isNear Word
-  test-near c k h = record {
-    bytes = k .0;
-    len = sym (k .1);
+  test-near : (c : List ℕ) → Bytes c → length c ≡ length w → T (isNear p t w c) → Near p t w c
+  unfolding isNear
+  test-near c k l h = record {
+    bytes = k;
+    len = sym l;
     code = code-of-test p c (and-left (isCode p c) (leb (distance w c) t) h);
     close = leb→le (distance w c) t (and-right (isCode p c) (leb (distance w c) t) h);
   }
@@ -170,30 +193,21 @@ module _ (p t : ℕ) (w : List ℕ) (hw : Bytes w) where
   unfolding isNear
   near-test c n = rw (truth (isCode p c) (test-of-code p c (n .code)), le-leb (distance w c) t (n .close))
 
-  -- where there is none, the word stays
-  pub nearest-none : ((c : List ℕ) → Near p t w c → ⊥) → nearest p t w ≡ w
+  pub nearest-bytes : Bytes (nearest p t w)
   unfolding nearest
-  nearest-none lone = go (first-of (isNear p t w) (length w) w (all-words (length w)))
+  nearest-bytes = go (first-chosen (isNear p t w) w)
     where
-      go : {d : List ℕ} → First (isNear p t w) (length w) w (allWords (length w)) d → d ≡ w
-      go (found {c} k h) = absurd (lone c (test-near c k h))
-      go (nothing f) = refl
+      go : {d : List ℕ} → Chosen (isNear p t w) w d → Bytes d
+      go (chosen k l h) = k
+      go (kept f) = hw
 
   pub nearest-length : length (nearest p t w) ≡ length w
-  unfolding nearest Word
-  nearest-length = go (first-of (isNear p t w) (length w) w (all-words (length w)))
+  unfolding nearest
+  nearest-length = go (first-chosen (isNear p t w) w)
     where
-      go : {d : List ℕ} → First (isNear p t w) (length w) w (allWords (length w)) d → length d ≡ length w
-      go (found {c} k h) = k .1
-      go (nothing f) = refl
-
-  pub nearest-bytes : Bytes (nearest p t w)
-  unfolding nearest Word
-  nearest-bytes = go (first-of (isNear p t w) (length w) w (all-words (length w)))
-    where
-      go : {d : List ℕ} → First (isNear p t w) (length w) w (allWords (length w)) d → Bytes d
-      go (found {c} k h) = k .0
-      go (nothing f) = hw
+      go : {d : List ℕ} → Chosen (isNear p t w) w d → length d ≡ length w
+      go (chosen k l h) = l
+      go (kept f) = refl
 
   module _ (short : length w ≤ 255) (room : t + t ≤ p) where
     -- at most one code word is near
@@ -205,29 +219,16 @@ module _ (p t : ℕ) (w : List ℕ) (hw : Bytes w) where
     -- THE REPAIR: a word that differs from a code word in at most t bytes is repaired to that code word
     pub nearest-near : (c : List ℕ) → Near p t w c → nearest p t w ≡ c
     unfolding nearest
-    nearest-near c n = go (first-of (isNear p t w) (length w) w (all-words (length w)))
+    nearest-near c n = go (first-chosen (isNear p t w) w)
       where
-        go : {d : List ℕ} → First (isNear p t w) (length w) w (allWords (length w)) d → d ≡ c
-        go (found {c = d} k h) = near-unique d c (test-near d k h) n
-        go (nothing f) =
-            absurd (false≢true (sym (f c (subst (λ (m : ℕ). In c (allWords m)) (sym (n .len)) (in-all c (n .bytes)))) ∙ near-test c n))
+        go : {d : List ℕ} → Chosen (isNear p t w) w d → d ≡ c
+        go (chosen {c = d} k l h) = near-unique d c (test-near d k l h) n
+        go (kept f) = absurd (false≢true (sym (f c (n .bytes) (sym (n .len))) ∙ near-test c n))
 
     -- a code word stays
     pub nearest-code : IsCode p w → nearest p t w ≡ w
     nearest-code h = nearest-near w (record { bytes = hw; len = refl; code = h; close = omega (arith, distance-self w) })
 
-  -- ---- what becomes of a word
-
   pub outcome-clean : isCode p w ≡ true → outcomeOf p t w ≡ Clean
   unfolding outcomeOf
   outcome-clean e = ap (λ (b : Bool). cond b Clean (cond (isCode p (nearest p t w)) Corrected Uncorrectable)) e
-
-  dirty : isCode p w ≡ false → outcomeOf p t w ≡ cond (isCode p (nearest p t w)) Corrected Uncorrectable
-  unfolding outcomeOf
-  dirty e = ap (λ (b : Bool). cond b Clean (cond (isCode p (nearest p t w)) Corrected Uncorrectable)) e
-
-  pub outcome-corrected : isCode p w ≡ false → isCode p (nearest p t w) ≡ true → outcomeOf p t w ≡ Corrected
-  outcome-corrected e f = dirty e ∙ ap (λ (b : Bool). cond b Corrected Uncorrectable) f
-
-  pub outcome-uncorrectable : isCode p w ≡ false → nearest p t w ≡ w → outcomeOf p t w ≡ Uncorrectable
-  outcome-uncorrectable e f = dirty e ∙ ap (λ (b : Bool). cond b Corrected Uncorrectable) (ap (isCode p) f ∙ e)

@@ -1,7 +1,7 @@
--- A polynomial that is not 0 has fewer roots than coefficients: each root is divided off.
+-- Places that pass a test, as the search finds them; and a polynomial that is not 0 has fewer roots than coefficients: each root is divided off.
 -- Assumes nothing.
 use mathlib.Core.Path.{_≡_, refl, sym, ap, ap₂, _∙_}
-use mathlib.Core.Bool.{Bool, true, false, cond}
+use mathlib.Core.Bool.{Bool, true, false, cond, _||_}
 use mathlib.Core.List.{List, [], _∷_, _++_, append-assoc}
 use Prim.Native.Nat.{ℕ, zero, suc, _+_, _-_, _<_, _≤_}
 use native.Mathlib.Omega.{arith}
@@ -11,10 +11,13 @@ use native.Mathlib.Numerals.{add-one}
 use lib.ListN.{length, getD, set, take, length-append}
 use lib.Seq.{length-take-le, take-suc-set}
 use Rattle.lists.specs.Bytes.{Bytes}
+use Rattle.lists.specs.Count.{bit, countFrom}
+use Rattle.lists.proofs.Count.{count-same, count-snoc}
 use Rattle.field.specs.Field.{add, mul, pow}
 use Rattle.field.proofs.Field.{add-assoc, add-comm, add-left-comm, add-zero, zero-add, add-cancel, eq-of-add, add-lt, add-mul, mul-add, mul-left-comm, mul-zero, mul-lt, zero-of-mul}
 use Rattle.field.proofs.Powers.{alpha-lt, powers-differ}
-use Rattle.codes.specs.Inner.{polyAt, rootPlaces, NonZero}
+use Rattle.codes.specs.Erasures.{isErased, erasureCount}
+use Rattle.codes.specs.Inner.{polyAt, erasedPlace, isRoot, isSuspect, placesWhere, NonZero}
 
 -- ---- division by x + a
 
@@ -74,19 +77,88 @@ one-nonzero (c ∷ cs) (suc d) e z = one-nonzero cs d e (z .1)
 pub lead-nonzero : (c : List ℕ) → NonZero c → AllZero c → ⊥
 lead-nonzero c n = one-nonzero c (n .degree) (n .lead)
 
+-- ---- places that pass a test
+
+module _ (f : ℕ → Bool) where
+  pub places-hit : (n : ℕ) → f n ≡ true → placesWhere f (suc n) ≡ n ∷ placesWhere f n
+  unfolding placesWhere
+  places-hit n e = ap (λ (t : Bool). cond t (n ∷ placesWhere f n) (placesWhere f n)) e
+
+  pub places-miss : (n : ℕ) → f n ≡ false → placesWhere f (suc n) ≡ placesWhere f n
+  unfolding placesWhere
+  places-miss n e = ap (λ (t : Bool). cond t (n ∷ placesWhere f n) (placesWhere f n)) e
+
+  -- as many as pass, counted from the end of a word of n bytes
+  pub places-count : (n : ℕ) → length (placesWhere f n) ≡ countFrom (λ i. f (n - suc i)) 0 n
+  unfolding placesWhere
+  places-count zero = refl
+  places-count (suc n) = go (f n) refl (places-count n)
+    where
+      rest : countFrom (λ i. f (suc n - suc i)) 1 n ≡ countFrom (λ i. f (n - suc i)) 0 n
+      rest = count-same (λ i. f (suc n - suc i)) (λ i. f (n - suc i)) 1 0 n (λ i l. ap f (omega arith))
+
+      first : bit (f (suc n - 1)) ≡ bit (f n)
+      first = ap (λ (k : ℕ). bit (f k)) (omega arith)
+
+      go : (t : Bool) → f n ≡ t → length (placesWhere f n) ≡ countFrom (λ i. f (n - suc i)) 0 n
+          → length (cond t (n ∷ placesWhere f n) (placesWhere f n)) ≡ bit (f (suc n - 1)) + countFrom (λ i. f (suc n - suc i)) 1 n
+      go true e ih = omega (arith, first, rest, ap bit e)
+      go false e ih = omega (arith, first, rest, ap bit e)
+
+  -- and counted from place 0 on
+  pub places-total : (n : ℕ) → length (placesWhere f n) ≡ countFrom f 0 n
+  unfolding placesWhere
+  places-total zero = refl
+  places-total (suc n) = go (f n) refl (places-total n)
+    where
+      go : (t : Bool) → f n ≡ t → length (placesWhere f n) ≡ countFrom f 0 n → length (cond t (n ∷ placesWhere f n) (placesWhere f n)) ≡ countFrom f 0 (suc n)
+      go true e ih = omega (arith, ap bit e, ap (countFrom f 0) (sym (add-one n)) , count-snoc f n)
+      go false e ih = omega (arith, ap bit e, ap (countFrom f 0) (sym (add-one n)), count-snoc f n)
+
+  -- each of them passes
+  pub places-pass : (n j : ℕ) → j < length (placesWhere f n) → f (getD (placesWhere f n) j 0) ≡ true
+  unfolding placesWhere
+  places-pass zero j l = absurd (omega arith)
+  places-pass (suc n) j l = go (f n) refl j l (places-pass n)
+    where
+      go : (t : Bool) → f n ≡ t → (j : ℕ) → j < length (cond t (n ∷ placesWhere f n) (placesWhere f n))
+          → ((j : ℕ) → j < length (placesWhere f n) → f (getD (placesWhere f n) j 0) ≡ true)
+          → f (getD (cond t (n ∷ placesWhere f n) (placesWhere f n)) j 0) ≡ true
+      go true e zero l ih = e
+      go true e (suc j) l ih = ih j (omega arith)
+      go false e j l ih = ih j l
+
+-- as many places are marked as bytes are
+pub erased-places : (m : List ℕ) → length (placesWhere (erasedPlace m) (length m)) ≡ erasureCount m (length m)
+unfolding erasureCount
+erased-places m =
+    places-count (erasedPlace m) (length m)
+    ∙ count-same (λ i. erasedPlace m (length m - suc i)) (isErased m) 0 0 (length m) (λ i l. ap (isErased m) (omega arith))
+
+-- the places of one test or another are no more than those of both together
+places-either : (f g : ℕ → Bool) (n : ℕ) → length (placesWhere (λ k. f k || g k) n) ≤ length (placesWhere f n) + length (placesWhere g n)
+unfolding placesWhere
+places-either f g zero = omega arith
+places-either f g (suc n) = go (f n) (g n) (places-either f g n)
+  where
+    either : ℕ → Bool
+    either k = f k || g k
+
+    go : (a b : Bool) → length (placesWhere either n) ≤ length (placesWhere f n) + length (placesWhere g n)
+        → length (cond (a || b) (n ∷ placesWhere either n) (placesWhere either n)) ≤ length (cond a (n ∷ placesWhere f n) (placesWhere f n)) + length (cond b (n ∷ placesWhere g n) (placesWhere g n))
+    go true true ih = omega arith
+    go true false ih = omega arith
+    go false true ih = omega arith
+    go false false ih = omega arith
+
 -- ---- the roots among the powers of α
 
-pub roots-hit : (c : List ℕ) (n : ℕ) → polyAt c (pow 2 n) ≡ 0 → rootPlaces c (suc n) ≡ n ∷ rootPlaces c n
-unfolding rootPlaces
-roots-hit c n e = ap (λ (t : Bool). cond t (n ∷ rootPlaces c n) (rootPlaces c n)) (eq-eqb (polyAt c (pow 2 n)) 0 e)
-
-pub roots-miss : (c : List ℕ) (n : ℕ) → (polyAt c (pow 2 n) ≡ 0 → ⊥) → rootPlaces c (suc n) ≡ rootPlaces c n
-unfolding rootPlaces
-roots-miss c n e = ap (λ (t : Bool). cond t (n ∷ rootPlaces c n) (rootPlaces c n)) (ne-eqb (polyAt c (pow 2 n)) 0 e)
+abbrev pub rootPlaces : List ℕ → ℕ → List ℕ
+rootPlaces c n = placesWhere (isRoot c) n
 
 -- one root divided off leaves the roots at the lower powers
 divide-roots : (c : List ℕ) (m n : ℕ) → Bytes c → n ≤ m → m < 255 → polyAt c (pow 2 m) ≡ 0 → rootPlaces (divide (pow 2 m) c) n ≡ rootPlaces c n
-unfolding rootPlaces
+unfolding placesWhere
 divide-roots c m zero hc l h e = refl
 divide-roots c m (suc n) hc l h e =
     ap₂ (λ (t : Bool) (ks : List ℕ). cond t (n ∷ ks) ks) (same (eqb (polyAt (divide a c) x) 0) refl) (divide-roots c m n hc (omega arith) h e)
@@ -111,7 +183,7 @@ divide-roots c m (suc n) hc l h e =
 pub roots-few : (n : ℕ) (c : List ℕ) → Bytes c → n ≤ 255 → (AllZero c → ⊥) → length (rootPlaces c n) < length c
 unfolding AllZero
 roots-few zero [] hc l nz = absurd (nz tt)
-roots-few zero (c ∷ cs) hc l nz = unfold rootPlaces in omega arith
+roots-few zero (c ∷ cs) hc l nz = unfold placesWhere in omega arith
 roots-few (suc n) c hc l nz = go (eqb (polyAt c (pow 2 n)) 0) refl (some c nz) (λ d hd k. roots-few n d hd (omega arith) k)
   where
     some : (c : List ℕ) → (AllZero c → ⊥) → 0 < length c
@@ -124,33 +196,31 @@ roots-few (suc n) c hc l nz = go (eqb (polyAt c (pow 2 n)) 0) refl (some c nz) (
         let e : polyAt c (pow 2 n) ≡ 0 = eqb-true (polyAt c (pow 2 n)) 0 q in
         let k : length (rootPlaces (divide (pow 2 n) c) n) < length (divide (pow 2 n) c) =
         rec (divide (pow 2 n) c) (divide-bytes (pow 2 n) c hc) (λ z. nz (divide-zero (pow 2 n) c e z)) in
-        omega (arith, ap length (roots-hit c n e), ap length (divide-roots c n n hc (omega arith) l e), divide-length (pow 2 n) c s)
-    go false q s rec = omega (arith, ap length (roots-miss c n (eqb-false (polyAt c (pow 2 n)) 0 q)), rec c hc nz)
+        omega (arith, ap length (places-hit (isRoot c) n q), ap length (divide-roots c n n hc (omega arith) l e), divide-length (pow 2 n) c s)
+    go false q s rec = omega (arith, ap length (places-miss (isRoot c) n q), rec c hc nz)
+
+-- the marked places and the roots
+pub suspects-few : (m c : List ℕ) → Bytes c → length m ≤ 255 → NonZero c → length (placesWhere (isSuspect m c) (length m)) < erasureCount m (length m) + length c
+suspects-few m c hc l nz = omega (arith, places-either (erasedPlace m) (isRoot c) (length m), erased-places m, roots-few (length m) c hc l (lead-nonzero c nz))
 
 -- ---- the search, as its loop goes: count places are found, and those below k are to come
 
-module _ (c out : List ℕ) (count k n : ℕ) (pos : 0 < k) (inside : count ≤ length out) (inv : take count out ++ rootPlaces c k ≡ rootPlaces c n) where
+module _ (f : ℕ → Bool) (out : List ℕ) (count k n : ℕ) (pos : 0 < k) (inside : count ≤ length out) (inv : take count out ++ placesWhere f k ≡ placesWhere f n) where
   next : suc (k - 1) ≡ k
   next = omega arith
 
-  pub search-miss : (polyAt c (pow 2 (k - 1)) ≡ 0 → ⊥) → take count out ++ rootPlaces c (k - 1) ≡ rootPlaces c n
-  search-miss e = ap (_++_ (take count out)) (sym (roots-miss c (k - 1) e) ∙ ap (rootPlaces c) next) ∙ inv
+  pub search-miss : f (k - 1) ≡ false → take count out ++ placesWhere f (k - 1) ≡ placesWhere f n
+  search-miss e = ap (_++_ (take count out)) (sym (places-miss f (k - 1) e) ∙ ap (placesWhere f) next) ∙ inv
 
-  module _ (e : polyAt c (pow 2 (k - 1)) ≡ 0) where
-    here : rootPlaces c k ≡ (k - 1) ∷ rootPlaces c (k - 1)
-    here = sym (ap (rootPlaces c) next) ∙ roots-hit c (k - 1) e
+  module _ (e : f (k - 1) ≡ true) where
+    here : placesWhere f k ≡ (k - 1) ∷ placesWhere f (k - 1)
+    here = sym (ap (placesWhere f) next) ∙ places-hit f (k - 1) e
 
-    pub search-room : Bytes c → n ≤ 255 → NonZero c → length c ≡ length out + 1 → count < length out
-    search-room hc l nz len =
-        omega (
-          arith,
-          roots-few n c hc l (lead-nonzero c nz),
-          sym (ap length inv) ∙ length-append (take count out) (rootPlaces c k),
-          length-take-le count out inside,
-          ap length here,
-        )
+    pub search-room : length (placesWhere f n) ≤ length out → count < length out
+    search-room few =
+        omega (arith, sym (ap length inv) ∙ length-append (take count out) (placesWhere f k), length-take-le count out inside, ap length here)
 
-    pub search-hit : count < length out → take (count + 1) (set out count (k - 1)) ++ rootPlaces c (k - 1) ≡ rootPlaces c n
+    pub search-hit : count < length out → take (count + 1) (set out count (k - 1)) ++ placesWhere f (k - 1) ≡ placesWhere f n
     search-hit l =
-        ap (λ (x : List ℕ). x ++ rootPlaces c (k - 1)) (ap (λ (m : ℕ). take m (set out count (k - 1))) (add-one count) ∙ take-suc-set out count (k - 1) l)
-        ∙ append-assoc (take count out) ((k - 1) ∷ []) (rootPlaces c (k - 1)) ∙ ap (_++_ (take count out)) (sym here) ∙ inv
+        ap (λ (x : List ℕ). x ++ placesWhere f (k - 1)) (ap (λ (m : ℕ). take m (set out count (k - 1))) (add-one count) ∙ take-suc-set out count (k - 1) l)
+        ∙ append-assoc (take count out) ((k - 1) ∷ []) (placesWhere f (k - 1)) ∙ ap (_++_ (take count out)) (sym here) ∙ inv

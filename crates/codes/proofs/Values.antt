@@ -16,7 +16,7 @@ use Rattle.field.specs.Field.{add, mul, pow, inverse}
 use Rattle.field.proofs.Field.{add-self, add-zero, zero-add, eq-of-add, add-lt, mul-assoc, mul-zero, zero-mul, mul-one, mul-lt, zero-of-mul}
 use Rattle.field.proofs.Powers.{pow-zero, alpha-lt, powers-differ}
 use Rattle.field.proofs.Inverse.{mul-inverse}
-use Rattle.codes.specs.Inner.{without, withoutOthers, spread, errorValue, rootPlaces, polyAt}
+use Rattle.codes.specs.Inner.{without, withoutOthers, spread, errorValue, placesWhere}
 use Rattle.codes.proofs.Vandermonde.{Err, sum, All, Small, All-map, less, sum-less, sum-zeros}
 
 -- ---- places that fall
@@ -31,14 +31,14 @@ unfolding Descending
 descending-up m n [] l d = tt
 descending-up m n (k ∷ ks) l d = (omega (arith, d .0), d .1)
 
-pub roots-descending : (c : List ℕ) (n : ℕ) → Descending n (rootPlaces c n)
-unfolding Descending rootPlaces
-roots-descending c zero = tt
-roots-descending c (suc n) = go (eqb (polyAt c (pow 2 n)) 0) (roots-descending c n)
+pub places-descending : (f : ℕ → Bool) (n : ℕ) → Descending n (placesWhere f n)
+unfolding Descending placesWhere
+places-descending f zero = tt
+places-descending f (suc n) = go (f n) (places-descending f n)
   where
-    go : (t : Bool) → Descending n (rootPlaces c n) → Descending (suc n) (cond t (n ∷ rootPlaces c n) (rootPlaces c n))
+    go : (t : Bool) → Descending n (placesWhere f n) → Descending (suc n) (cond t (n ∷ placesWhere f n) (placesWhere f n))
     go true d = (omega arith, d)
-    go false d = descending-up n (suc n) (rootPlaces c n) (omega arith) d
+    go false d = descending-up n (suc n) (placesWhere f n) (omega arith) d
 
 pub descending-at : (n : ℕ) (ks : List ℕ) (j : ℕ) → Descending n ks → j < length ks → getD ks j 0 < n
 unfolding Descending

@@ -56,7 +56,7 @@ pub Distinct-map : (f : Err → Err) → ((e : Err) → f e .loc ≡ e .loc) →
 Distinct-map f h [] d = tt
 Distinct-map f h (e ∷ es) d = (rw (h e) (All-loc (e .loc) f h es (d .0)), Distinct-map f h es (d .1))
 
-term : (x l v i : ℕ) → l < 256 → add (mul v (pow l (suc i))) (mul x (mul v (pow l i))) ≡ mul (mul v (add l x)) (pow l i)
+pub term : (x l v i : ℕ) → l < 256 → add (mul v (pow l (suc i))) (mul x (mul v (pow l i))) ≡ mul (mul v (add l x)) (pow l i)
 term x l v i hl = rw (pow-suc l hl i) (simp (mul-add, add-mul, mul-assoc, mul-left-comm))
 
 -- one sum and x times the one before it: the sum of what is less by x

@@ -1,7 +1,7 @@
 -- The vocabulary of the inner contracts: what each step of the decoder hands to the next. No public contract cites it, and nobody needs to believe it.
 -- A polynomial here has its lowest coefficient first.
 -- Assumes nothing.
-use mathlib.Core.Bool.{Bool, true, false, not, cond}
+use mathlib.Core.Bool.{Bool, true, false, not, cond, _||_}
 use mathlib.Core.Path.{_≡_}
 use mathlib.Core.List.{List, [], _∷_}
 use Prim.Native.Nat.{ℕ, zero, suc, _+_, _*_, _-_, _<_, _≤_}
@@ -11,6 +11,7 @@ use Rattle.lists.specs.Bytes.{Bytes}
 use Rattle.lists.specs.Count.{bit, countFrom}
 use Rattle.lists.specs.Fill.{tabulate}
 use Rattle.field.specs.Field.{add, mul, pow, inverse}
+use Rattle.codes.specs.Erasures.{isErased}
 
 -- the syndromes as a function, from the list of them
 abbrev pub at : List ℕ → ℕ → ℕ
@@ -77,25 +78,49 @@ pub record Cleared (S : ℕ → ℕ) (t w k e : ℕ) (m m' v' : List ℕ) (r : B
   pub goes : r ≡ true → (m' ≡ m) × Candidate S w k e v'
   pub stops : r ≡ false → Pivots S t w (k + 1) m'
 
--- ---- the search
+-- ---- the marked places. A place is counted from the end of a word: place k has the locator α^k
 
--- the n-1 .. 0 at whose powers of α a polynomial is 0
-unfoldable pub rootPlaces : List ℕ → ℕ → List ℕ
-rootPlaces c zero = []
-rootPlaces c (suc n) = cond (eqb (polyAt c (pow 2 n)) 0) (n ∷ rootPlaces c n) (rootPlaces c n)
-
--- ks are the places below n of the roots of a locator for the syndromes S. With fewer than t errors there are several locators: any will do
-pub record Places (S : ℕ → ℕ) (t n : ℕ) (ks : List ℕ) : Type 0 where
-  pub locator : List ℕ
-  pub bytes : Bytes locator
-  pub locates : Locator S t locator
-  pub roots : ks ≡ rootPlaces locator n
-
--- ---- the values
+-- place k is marked
+abbrev pub erasedPlace : List ℕ → ℕ → Bool
+erasedPlace m k = isErased m (length m - suc k)
 
 -- one syndrome and x times the one before it: the error with the locator x drops out of the sums
 unfoldable pub without : ℕ → (ℕ → ℕ) → ℕ → ℕ
 without x S i = add (S (suc i)) (mul x (S i))
+
+-- the syndromes without the errors at those of the places below n that pass a test
+unfoldable pub withoutMarked : (ℕ → Bool) → ℕ → (ℕ → ℕ) → ℕ → ℕ
+withoutMarked f zero S = S
+withoutMarked f (suc n) S = withoutMarked f n (cond (f n) (without (pow 2 n) S) S)
+
+-- ---- the search
+
+-- the polynomial is 0 at the locator of place k
+abbrev pub isRoot : List ℕ → ℕ → Bool
+isRoot c k = eqb (polyAt c (pow 2 k)) 0
+
+-- an error may stand at place k: it is marked, or a root of the locator polynomial
+abbrev pub isSuspect : List ℕ → List ℕ → ℕ → Bool
+isSuspect m c k = erasedPlace m k || isRoot c k
+
+-- those of the places n-1 .. 0 that pass a test
+unfoldable pub placesWhere : (ℕ → Bool) → ℕ → List ℕ
+placesWhere f zero = []
+placesWhere f (suc n) = cond (f n) (n ∷ placesWhere f n) (placesWhere f n)
+
+-- ks are the marked places, and the places of the roots of a locator for the syndromes S without the errors at the marked ones. With fewer than t other errors
+-- there are several locators: any will do
+pub record Places (S : ℕ → ℕ) (t : ℕ) (m ks : List ℕ) : Type 0 where
+  pub locator : List ℕ
+  pub bytes : Bytes locator
+  pub locates : Locator (withoutMarked (erasedPlace m) (length m) S) t locator
+  pub found : ks ≡ placesWhere (isSuspect m locator) (length m)
+
+-- each number of a list is below n
+abbrev pub AllBelow : ℕ → List ℕ → Type 0
+AllBelow n ks = (j : ℕ) → j < length ks → getD ks j 0 < n
+
+-- ---- the values
 
 -- the syndromes without the first l errors of the places ks, but for the error j
 unfoldable pub withoutOthers : List ℕ → ℕ → ℕ → (ℕ → ℕ) → ℕ → ℕ

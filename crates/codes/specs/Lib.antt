@@ -1,4 +1,5 @@
 pub mod Word
 pub mod Parity
 pub mod Nearest
+pub mod Erasures
 pub mod Inner

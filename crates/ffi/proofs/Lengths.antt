@@ -1,13 +1,16 @@
 -- What the definitions of specs/Answers say in each case of the lengths, for any lengths.
 -- Assumes nothing.
-use mathlib.Core.Bool.{_&&_}
+use mathlib.Core.Bool.{Bool, true, false, _&&_}
 use mathlib.Core.List.{List}
-use mathlib.Core.Path.{_≡_, _∙_}
+use mathlib.Core.Path.{_≡_, sym, _∙_}
 use Prim.Native.Nat.{ℕ}
 use lib.ListN.{length}
 use borrow.Author.Tests.{eq-eqb, ne-eqb}
 use Rattle.codes.specs.Nearest.{nearest, outcomeOf}
-use Rattle.ffi.specs.Answers.{sized, doneOr1, heldAfter, outcomeNumber, wordRepairNumber, wordRepairBytes}
+use Rattle.codes.specs.Erasures.{nearestErased, outcomeErased}
+use Rattle.layout.specs.Lengths.{rowCount, rowSize, innerSize, outerSize}
+use Rattle.repairer.specs.Answer.{marksFit}
+use Rattle.ffi.specs.Answers.{sized, doneOr1, heldAfter, outcomeNumber, columnRepairNumber, columnRepairBytes, rowRepairNumber, rowRepairBytes}
 
 -- ---- a function that reads n bytes a and fills the m bytes b
 
@@ -23,11 +26,34 @@ pub done :
     (n m : ℕ) (a b asked b' : List ℕ) → length a ≡ n → length b ≡ m → b' ≡ asked → (0 ≡ doneOr1 (sized n a && sized m b)) × (b' ≡ heldAfter (sized n a && sized m b) asked b)
 done n m a b asked b' l k e = (rw (eq-eqb (length a) n l, eq-eqb (length b) m k), e ∙ rw (eq-eqb (length a) n l, eq-eqb (length b) m k))
 
--- ---- the repair of a word of n bytes
+-- ---- the repair of a column
 
-pub repair-refused : (n p t : ℕ) (w : List ℕ) → (length w ≡ n → ⊥) → (1 ≡ wordRepairNumber n p t w) × (w ≡ wordRepairBytes n p t w)
-repair-refused n p t w h = (rw (ne-eqb (length w) n h), rw (ne-eqb (length w) n h))
+pub column-refused : (w : List ℕ) → (length w ≡ rowCount → ⊥) → (1 ≡ columnRepairNumber w) × (w ≡ columnRepairBytes w)
+column-refused w h = (rw (ne-eqb (length w) rowCount h), rw (ne-eqb (length w) rowCount h))
 
-pub repaired :
-    (n p t r : ℕ) (w w' : List ℕ) → length w ≡ n → r ≡ outcomeNumber (outcomeOf p t w) → w' ≡ nearest p t w → (r ≡ wordRepairNumber n p t w) × (w' ≡ wordRepairBytes n p t w)
-repaired n p t r w w' l e f = (e ∙ rw (eq-eqb (length w) n l), f ∙ rw (eq-eqb (length w) n l))
+pub column-repaired :
+    (r : ℕ) (w w' : List ℕ) → length w ≡ rowCount → r ≡ outcomeNumber (outcomeOf outerSize 8 w) → w' ≡ nearest outerSize 8 w → (r ≡ columnRepairNumber w) × (w' ≡ columnRepairBytes w)
+column-repaired r w w' l e f = (e ∙ rw (eq-eqb (length w) rowCount l), f ∙ rw (eq-eqb (length w) rowCount l))
+
+-- ---- the repair of a row with its marks
+
+module _ (w m : List ℕ) where
+  pub row-refused : (length w ≡ rowSize → ⊥) → (1 ≡ rowRepairNumber w m) × (w ≡ rowRepairBytes w m)
+  row-refused h = (rw (ne-eqb (length w) rowSize h), rw (ne-eqb (length w) rowSize h))
+
+  module _ (l : length w ≡ rowSize) where
+    pub marks-refused : (length m ≡ rowSize → ⊥) → (1 ≡ rowRepairNumber w m) × (w ≡ rowRepairBytes w m)
+    marks-refused h = (rw (eq-eqb (length w) rowSize l, ne-eqb (length m) rowSize h), rw (eq-eqb (length w) rowSize l, ne-eqb (length m) rowSize h))
+
+    -- t says whether the marks fit
+    module _ (k : length m ≡ rowSize) (t : Bool) (et : t ≡ marksFit m) where
+      pub mark-refused : t ≡ false → (11 ≡ rowRepairNumber w m) × (w ≡ rowRepairBytes w m)
+      mark-refused h =
+          let z : marksFit m ≡ false = sym et ∙ h in
+          (rw (eq-eqb (length w) rowSize l, eq-eqb (length m) rowSize k, z), rw (eq-eqb (length w) rowSize l, eq-eqb (length m) rowSize k, z))
+
+      pub row-repaired :
+          (r : ℕ) (w' : List ℕ) → t ≡ true → r ≡ outcomeNumber (outcomeErased innerSize m w) → w' ≡ nearestErased innerSize m w → (r ≡ rowRepairNumber w m) × (w' ≡ rowRepairBytes w m)
+      row-repaired r w' h e f =
+          let z : marksFit m ≡ true = sym et ∙ h in
+          (e ∙ rw (eq-eqb (length w) rowSize l, eq-eqb (length m) rowSize k, z), f ∙ rw (eq-eqb (length w) rowSize l, eq-eqb (length m) rowSize k, z))

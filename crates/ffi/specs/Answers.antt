@@ -3,9 +3,10 @@
 --   previousOf                                  the block before, as C tells it
 --   corrected, uncorrectable, outcomeNumber     the outcomes of a word
 --   sized, doneOr1, heldAfter                   a function that fills a buffer, or refuses
---   wordRepairNumber, wordRepairBytes           the repair of a word
+--   columnRepairNumber, columnRepairBytes       the repair of a column
+--   rowRepairNumber, rowRepairBytes             and of a row with its marks
 -- Assumes nothing.
-use mathlib.Core.Bool.{Bool, true, false, cond}
+use mathlib.Core.Bool.{Bool, true, false, cond, _&&_}
 use mathlib.Core.List.{List}
 use Prim.Native.Nat.{ℕ}
 use lib.Dec.{eqb}
@@ -15,6 +16,9 @@ use Rattle.eccblock.specs.declared.Previous.the-variants.{None, First}
 use Rattle.codes.specs.declared.Outcome.{Outcome}
 use Rattle.codes.specs.declared.Outcome.the-variants.{Clean, Corrected, Uncorrectable}
 use Rattle.codes.specs.Nearest.{nearest, outcomeOf}
+use Rattle.codes.specs.Erasures.{nearestErased, outcomeErased}
+use Rattle.layout.specs.Lengths.{rowCount, rowSize, innerSize, outerSize}
+use Rattle.repairer.specs.Answer.{marksFit}
 
 -- the block before: none, or the one with that first number, which counts only where a block comes before
 abbrev pub previousOf : Bool → ℕ → Previous
@@ -46,10 +50,23 @@ outcomeNumber Clean = 0
 outcomeNumber Corrected = corrected
 outcomeNumber Uncorrectable = uncorrectable
 
--- the repair of a word of n bytes with p roots, at most t bytes wrong: its number, or refusal 1 for another length
-abbrev pub wordRepairNumber : ℕ → ℕ → ℕ → List ℕ → ℕ
-wordRepairNumber n p t w = cond (sized n w) (outcomeNumber (outcomeOf p t w)) 1
+-- the repair of a column of 208 bytes with sixteen roots, at most eight bytes wrong: its number, or refusal 1 for another length
+abbrev pub columnRepairNumber : List ℕ → ℕ
+columnRepairNumber w = cond (sized rowCount w) (outcomeNumber (outcomeOf outerSize 8 w)) 1
 
--- the bytes of the word after it
-abbrev pub wordRepairBytes : ℕ → ℕ → ℕ → List ℕ → List ℕ
-wordRepairBytes n p t w = heldAfter (sized n w) (nearest p t w) w
+-- the bytes of the column after it
+abbrev pub columnRepairBytes : List ℕ → List ℕ
+columnRepairBytes w = heldAfter (sized rowCount w) (nearest outerSize 8 w) w
+
+-- a row of 182 bytes and as many marks
+abbrev pub rowSized : List ℕ → List ℕ → Bool
+rowSized w m = sized rowSize w && sized rowSize m
+
+-- the repair of a row w with ten roots and the marks m (document 02, request 2): its number; or refusal 1 for another length of either, and after it 11 for a mark
+-- that is neither 0 nor 1
+abbrev pub rowRepairNumber : List ℕ → List ℕ → ℕ
+rowRepairNumber w m = cond (rowSized w m) (cond (marksFit m) (outcomeNumber (outcomeErased innerSize m w)) 11) 1
+
+-- the bytes of the row after it
+abbrev pub rowRepairBytes : List ℕ → List ℕ → List ℕ
+rowRepairBytes w m = heldAfter (rowSized w m && marksFit m) (nearestErased innerSize m w) w

@@ -4,7 +4,7 @@ ghost use mathlib.Core.Bool.{_&&_};
 ghost use Rattle.field.specs.Field.{mul, pow};
 ghost use Rattle.codes.specs.Parity.{parity};
 ghost use Rattle.layout.specs.Lengths.{dataRows, rowCount, columnCount, rowSize, outerSize, innerSize};
-ghost use Rattle.ffi.specs.Answers.{sized, doneOr1, heldAfter, outcomeNumber, wordRepairNumber, wordRepairBytes};
+ghost use Rattle.ffi.specs.Answers.{sized, doneOr1, heldAfter, outcomeNumber, columnRepairNumber, columnRepairBytes, rowRepairNumber, rowRepairBytes};
 use codes::Outcome;
 use layout::COLUMN_COUNT;
 use layout::DATA_ROWS;
@@ -106,21 +106,32 @@ pub extern "C" fn chamanzil_column_parity(word: &[u8], out: &mut [u8]) -> u32
     0
 }
 
-// The repair of a row of 182 bytes, in place.
+// The repair of a row of 182 bytes with its marks, in place.
 #[no_mangle]
-pub extern "C" fn chamanzil_correct_row(row: &mut [u8]) -> u32
-    ensures { λ r. ⌜ r ≡ wordRepairNumber rowSize innerSize 5 (now (row .entry)) ⌝ }
-    ensures { λ r. ⌜ now (row .exit) ≡ wordRepairBytes rowSize innerSize 5 (now (row .entry)) ⌝ }
+pub extern "C" fn chamanzil_correct_row(row: &mut [u8], erasures: &[u8]) -> u32
+    ensures { λ r. ⌜ r ≡ rowRepairNumber (now (row .entry)) (now (erasures .entry)) ⌝ }
+    ensures { λ r. ⌜ now (row .exit) ≡ rowRepairBytes (now (row .entry)) (now (erasures .entry)) ⌝ }
 {
     if row.len() != ROW_SIZE {
         return 1;
     }
+    if erasures.len() != ROW_SIZE {
+        return 1;
+    }
+    if !repairer::marks_fit(erasures) {
+        return 11;
+    }
     let mut bytes = [0u8; ROW_SIZE];
     bytes::put(&mut bytes, 0, row);
-    let repaired = reedsolomon::correct_row(Row {
-        bytes,
-        outcome: Outcome::Clean,
-    });
+    let mut marks = [0u8; ROW_SIZE];
+    bytes::put(&mut marks, 0, erasures);
+    let repaired = reedsolomon::correct_row(
+        &marks,
+        Row {
+            bytes,
+            outcome: Outcome::Clean,
+        },
+    );
     let near = repaired.bytes;
     bytes::put(row, 0, &near);
     let outcome = repaired.outcome;
@@ -130,8 +141,8 @@ pub extern "C" fn chamanzil_correct_row(row: &mut [u8]) -> u32
 // The repair of a column of 208 bytes, in place.
 #[no_mangle]
 pub extern "C" fn chamanzil_correct_column(column: &mut [u8]) -> u32
-    ensures { λ r. ⌜ r ≡ wordRepairNumber rowCount outerSize 8 (now (column .entry)) ⌝ }
-    ensures { λ r. ⌜ now (column .exit) ≡ wordRepairBytes rowCount outerSize 8 (now (column .entry)) ⌝ }
+    ensures { λ r. ⌜ r ≡ columnRepairNumber (now (column .entry)) ⌝ }
+    ensures { λ r. ⌜ now (column .exit) ≡ columnRepairBytes (now (column .entry)) ⌝ }
 {
     if column.len() != ROW_COUNT {
         return 1;

@@ -1,11 +1,14 @@
--- Counts and distances.
+-- Counts of one test (count-append, count-snoc, count-weave, count-le, count-none), and of two beside each other (count-same, count-flip, count-order,
+-- count-split). Distances: of a list from itself (distance-self), and where a test tells at which places two lists may differ (distance-count).
 -- Assumes nothing.
-use mathlib.Core.Path.{_≡_, refl, ap, ap₂, _∙_}
-use mathlib.Core.Bool.{Bool, true, false}
+use mathlib.Core.Path.{_≡_, refl, sym, ap, ap₂, subst, _∙_}
+use mathlib.Core.Bool.{Bool, true, false, false≢true, not, _&&_}
 use mathlib.Core.List.{List, [], _∷_}
 use Prim.Native.Nat.{ℕ, zero, suc, _+_, _*_, _≤_, _<_, suc-le-suc}
 use native.Mathlib.Omega.{arith}
 use borrow.Author.Tests.{eq-eqb}
+use lib.Dec.{T, eqb}
+use lib.ListN.{length, getD}
 use Rattle.lists.specs.Count.{bit, countFrom, distance}
 
 -- ---- counts
@@ -89,9 +92,52 @@ count-flip f g k (suc n) (suc i) l h a b =
     (ap f (omega arith) ∙ a) (ap g (omega arith) ∙ b) in
     omega (arith, ap bit x)
 
+bit-order : (a b : Bool) → (T a → T b) → bit a ≤ bit b
+bit-order true true h = omega arith
+bit-order true false h = absurd (h tt)
+bit-order false b h = omega arith
+
+-- where a number passes one test only if it passes another, no more pass it
+pub count-order : (f g : ℕ → Bool) (k n : ℕ) → ((i : ℕ) → i < k + n → T (f i) → T (g i)) → countFrom f k n ≤ countFrom g k n
+count-order f g k zero h = omega arith
+count-order f g k (suc n) h =
+    let here = bit-order (f k) (g k) (h k (omega arith)) in
+    let rest = count-order f g (suc k) n (λ i l. h i (omega arith)) in
+    omega arith
+
+bit-split : (a b : Bool) → (b ≡ false → a ≡ false) → bit (not a && b) + bit a ≡ bit b
+bit-split true true h = refl
+bit-split true false h = absurd (false≢true (sym (h refl)))
+bit-split false b h = omega arith
+
+-- and those that pass the other are these and the ones that pass it alone
+pub count-split :
+    (f g : ℕ → Bool) (k n : ℕ) → ((i : ℕ) → i < k + n → g i ≡ false → f i ≡ false) → countFrom (λ i. not (f i) && g i) k n + countFrom f k n ≡ countFrom g k n
+count-split f g k zero h = refl
+count-split f g k (suc n) h =
+    let here = bit-split (f k) (g k) (h k (omega arith)) in
+    let rest = count-split f g (suc k) n (λ i l. h i (omega arith)) in
+    omega arith
+
 -- ---- distances
 
 pub distance-self : (xs : List ℕ) → distance xs xs ≡ 0
 unfolding distance
 distance-self [] = refl
 distance-self (x ∷ xs) = rw (eq-eqb x x refl) (omega (arith, distance-self xs))
+
+count-step : (t : Bool) (x y a b : ℕ) → (t ≡ false → x ≡ y) → a ≤ b → bit (not (eqb x y)) + a ≤ bit t + b
+count-step true x y a b f h = omega (arith, bit-le (not (eqb x y)))
+count-step false x y a b f h = rw (eq-eqb x y (f refl)) (omega arith)
+
+-- two lists differ in no more places than pass a test, where they are alike at each place that does not
+pub distance-count :
+    (xs ys : List ℕ) (t : ℕ → Bool) (k : ℕ) → length xs ≡ length ys → ((i : ℕ) → i < length xs → t (k + i) ≡ false → getD xs i 0 ≡ getD ys i 0)
+    → distance xs ys ≤ countFrom t k (length xs)
+unfolding distance
+distance-count [] ys t k e h = omega arith
+distance-count (x ∷ xs) [] t k e h = omega arith
+distance-count (x ∷ xs) (y ∷ ys) t k e h =
+    count-step (t k) x y (distance xs ys) (countFrom t (suc k) (length xs)) (λ z. h 0 (omega arith) (subst (λ (m : ℕ). t m ≡ false) (omega arith) z))
+    (distance-count xs ys t (suc k) (omega arith)
+    (λ i j z. h (suc i) (suc-le-suc j) (subst (λ (m : ℕ). t m ≡ false) (omega arith) z)))

@@ -1,8 +1,8 @@
--- The sector reader's answer, its number and its buffer, case by case: the cases (stream-other, buffer-other, both-fit), the answer (refused, tallied,
--- sector-read-number), the buffer (buffer-left, buffer-read). The closing code likewise (closing-other, closing-judged).
+-- What the sector reader answers and leaves in its two buffers, case by case: a length that is another (stream-other, out-other, erasures-other), and a sector
+-- that is read (fits, sector-read). The closing code likewise (closing-other, closing-judged).
 -- Assumes nothing.
-use mathlib.Core.Path.{_≡_, refl}
-use mathlib.Core.Bool.{Bool, true, false, cond}
+use mathlib.Core.Path.{_≡_, refl, ap₂}
+use mathlib.Core.Bool.{Bool, true, false, and-false}
 use mathlib.Core.List.{List}
 use mathlib.Core.Logic.{_≢_}
 use Prim.Native.Nat.{ℕ}
@@ -11,48 +11,46 @@ use lib.ListN.{length}
 use Rattle.layout.specs.Lengths.{sectorRead, sectorSize, closingSize}
 use Rattle.annexg.specs.Sync.{isSync}
 use Rattle.bytes.specs.Halves.{halfAt}
-use Rattle.channel.specs.Block.{readSector}
+use Rattle.channel.specs.Block.{readSector, erasuresOfSector}
 use Rattle.reader.specs.Closing.{closingHolds}
-use Rattle.reader.specs.Sector.{sectorFits, sectorAnswer, sectorAfter, sectorReadRefusal, sectorReadNumber, unknownTally, syncTally}
+use Rattle.reader.specs.Sector.{sectorFits, sectorAnswer, sectorAfter, erasuresAfter, sectorReadRefusal, sectorReadNumber, unknownTally, syncTally}
+use Rattle.reader.specs.declared.SectorRead.{SectorRead}
 use Rattle.reader.specs.declared.SectorRead.the-variants.{Sector, LengthRefused}
 
-module _ (xs : List ℕ) (n : ℕ) where
-  pub stream-other : length xs ≢ sectorRead → sectorFits xs n ≡ false
+-- what the contract asks of an answer r, where b and e are then in the buffers that held out and erasures, clause by clause
+abbrev pub Clauses : List ℕ → List ℕ → List ℕ → SectorRead → List ℕ → List ℕ → Type 0
+Clauses xs out erasures r b e =
+    (r ≡ sectorAnswer xs (length out) (length erasures))
+    × ((sectorReadNumber r ≡ sectorReadRefusal xs (length out) (length erasures))
+    × ((b ≡ sectorAfter xs out (length erasures)) × (e ≡ erasuresAfter xs (length out) erasures)))
+
+pub fits : (xs : List ℕ) (n m : ℕ) → length xs ≡ sectorRead → n ≡ sectorSize → m ≡ sectorSize → sectorFits xs n m ≡ true
+unfolding sectorFits
+fits xs n m hx hn hm = rw (eq-eqb (length xs) sectorRead hx, eq-eqb n sectorSize hn, eq-eqb m sectorSize hm)
+
+module _ (xs out erasures : List ℕ) where
+  refused : sectorFits xs (length out) (length erasures) ≡ false → Clauses xs out erasures LengthRefused out erasures
+  unfolding sectorAnswer sectorReadRefusal sectorAfter erasuresAfter
+  refused e = rw e (refl, (refl, (refl, refl)))
+
+  pub stream-other : length xs ≢ sectorRead → Clauses xs out erasures LengthRefused out erasures
   unfolding sectorFits
-  stream-other h = rw (ne-eqb (length xs) sectorRead h)
+  stream-other h = refused (rw (ne-eqb (length xs) sectorRead h))
 
-  pub buffer-other : length xs ≡ sectorRead → n ≢ sectorSize → sectorFits xs n ≡ false
+  pub out-other : length out ≢ sectorSize → Clauses xs out erasures LengthRefused out erasures
   unfolding sectorFits
-  buffer-other e h = rw (eq-eqb (length xs) sectorRead e, ne-eqb n sectorSize h)
+  out-other h = refused (rw (ne-eqb (length out) sectorSize h, and-false))
 
-  pub both-fit : length xs ≡ sectorRead → n ≡ sectorSize → sectorFits xs n ≡ true
+  pub erasures-other : length erasures ≢ sectorSize → Clauses xs out erasures LengthRefused out erasures
   unfolding sectorFits
-  both-fit e f = rw (eq-eqb (length xs) sectorRead e, eq-eqb n sectorSize f)
+  erasures-other h = refused (rw (ne-eqb (length erasures) sectorSize h, and-false, and-false))
 
-  pub refused : sectorFits xs n ≡ false → LengthRefused ≡ sectorAnswer xs n
-  unfolding sectorAnswer
-  refused e = rw e
-
-  pub tallied : sectorFits xs n ≡ true → Sector (unknownTally xs) (syncTally xs) ≡ sectorAnswer xs n
-  unfolding sectorAnswer
-  tallied e = rw e
-
-  pub sector-read-number : sectorReadNumber (sectorAnswer xs n) ≡ sectorReadRefusal xs n
-  unfolding sectorAnswer sectorReadRefusal
-  sector-read-number = go (sectorFits xs n)
-    where
-      go : (b : Bool) → sectorReadNumber (cond b (Sector (unknownTally xs) (syncTally xs)) LengthRefused) ≡ cond b 0 1
-      go true = refl
-      go false = refl
-
-module _ (xs old : List ℕ) where
-  pub buffer-left : sectorFits xs (length old) ≡ false → old ≡ sectorAfter xs old
-  unfolding sectorAfter
-  buffer-left e = rw e
-
-  pub buffer-read : sectorFits xs (length old) ≡ true → readSector xs ≡ sectorAfter xs old
-  unfolding sectorAfter
-  buffer-read e = rw e
+  -- what is read of the sector, with its tallies
+  pub sector-read :
+      length xs ≡ sectorRead → length out ≡ sectorSize → length erasures ≡ sectorSize → {unknown sync : ℕ} {b e : List ℕ} → unknown ≡ unknownTally xs
+      → sync ≡ syncTally xs → b ≡ readSector xs → e ≡ erasuresOfSector xs → Clauses xs out erasures (Sector unknown sync) b e
+  unfolding sectorAnswer sectorReadRefusal sectorAfter erasuresAfter
+  sector-read hx ho he hu hs hb hm = rw (fits xs (length out) (length erasures) hx ho he) (ap₂ Sector hu hs, (refl, (hb, hm)))
 
 module _ (xs : List ℕ) where
   pub closing-other : length xs ≢ closingSize → false ≡ closingHolds xs

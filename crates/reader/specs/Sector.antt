@@ -1,30 +1,18 @@
--- The sector reader: its bytes, its tallies and what a call leaves (document 01, 'Reading a word, and the repair').
+-- The sector reader: its bytes, its marks, its tallies and what a call leaves (document 01, 'Reading a word, and the repair'; document 02, request 2).
 -- Assumes nothing.
-use mathlib.Core.Bool.{Bool, true, false, not, cond, _&&_}
+use mathlib.Core.Bool.{Bool, not, cond, _&&_}
 use mathlib.Core.List.{List}
 use Prim.Native.Nat.{ℕ, _+_, _*_}
 use lib.Dec.{eqb}
 use lib.ListN.{length}
 use Rattle.lists.specs.Count.{countFrom}
-use Rattle.annexg.specs.Read.{readWord}
 use Rattle.annexg.specs.Sync.{isSync}
-use Rattle.annexg.specs.declared.Reading.{Reading}
-use Rattle.annexg.specs.declared.Reading.the-variants.{Byte, Unknown}
-use Rattle.layout.specs.Sectors.{codeOf, halfOf}
+use Rattle.layout.specs.Sectors.{codeOf}
 use Rattle.bytes.specs.Halves.{halfAt}
-use Rattle.channel.specs.Block.{readSector}
+use Rattle.channel.specs.Block.{readSector, unknownAt, erasuresOfSector}
 use Rattle.layout.specs.Lengths.{sectorSize, sectorRead, frameHalves, sectorFrames}
 use Rattle.reader.specs.declared.SectorRead.{SectorRead}
 use Rattle.reader.specs.declared.SectorRead.the-variants.{Sector, LengthRefused}
-
--- a word that fits nothing
-abbrev pub isUnknown : Reading → Bool
-isUnknown (Byte b) = false
-isUnknown Unknown = true
-
--- byte i's word is unknown, with the half word after it
-unfoldable pub unknownAt : List ℕ → ℕ → Bool
-unknownAt xs i = isUnknown (readWord (halfAt xs (halfOf i)) (halfAt xs (halfOf i + 1)))
 
 -- the SYNC place of frame f holds none of the four codes due there; a frame is 93 half words
 unfoldable pub lostSync : List ℕ → ℕ → Bool
@@ -37,20 +25,23 @@ unknownTally xs = countFrom (unknownAt xs) 0 sectorSize
 unfoldable pub syncTally : List ℕ → ℕ
 syncTally xs = countFrom (lostSync xs) 0 sectorFrames
 
--- a sector and the two bytes after it are 4,838 bytes, and the lent buffer has 2,366
-unfoldable pub sectorFits : List ℕ → ℕ → Bool
-sectorFits xs n = eqb (length xs) sectorRead && eqb n sectorSize
+-- a sector and the two bytes after it are 4,838 bytes; the buffer lent for its bytes has n, and the one for its marks m: 2,366 each
+unfoldable pub sectorFits : List ℕ → ℕ → ℕ → Bool
+sectorFits xs n m = eqb (length xs) sectorRead && (eqb n sectorSize && eqb m sectorSize)
 
--- the answer, and the buffer after the call: as it was where a length is wrong
-unfoldable pub sectorAnswer : List ℕ → ℕ → SectorRead
-sectorAnswer xs n = cond (sectorFits xs n) (Sector (unknownTally xs) (syncTally xs)) LengthRefused
+-- the answer, and the two buffers after the call: as they were where a length is wrong
+unfoldable pub sectorAnswer : List ℕ → ℕ → ℕ → SectorRead
+sectorAnswer xs n m = cond (sectorFits xs n m) (Sector (unknownTally xs) (syncTally xs)) LengthRefused
 
-unfoldable pub sectorAfter : List ℕ → List ℕ → List ℕ
-sectorAfter xs old = cond (sectorFits xs (length old)) (readSector xs) old
+unfoldable pub sectorAfter : List ℕ → List ℕ → ℕ → List ℕ
+sectorAfter xs old m = cond (sectorFits xs (length old) m) (readSector xs) old
+
+unfoldable pub erasuresAfter : List ℕ → ℕ → List ℕ → List ℕ
+erasuresAfter xs n old = cond (sectorFits xs n (length old)) (erasuresOfSector xs) old
 
 -- the number that a call is refused with: 1 where a length is another than stated, 0 where nothing is refused
-unfoldable pub sectorReadRefusal : List ℕ → ℕ → ℕ
-sectorReadRefusal xs n = cond (sectorFits xs n) 0 1
+unfoldable pub sectorReadRefusal : List ℕ → ℕ → ℕ → ℕ
+sectorReadRefusal xs n m = cond (sectorFits xs n m) 0 1
 
 -- document 01's number for each answer, 0 where nothing is refused
 abbrev pub sectorReadNumber : SectorRead → ℕ

@@ -1,6 +1,6 @@
-// The sector reader (document 01, 'Reading a word, and the repair'): 4,838 bytes of stream, a sector and the two bytes after it, to 2,366 bytes and two tallies.
-// The tables are made once a call of `read_sector` and lent from there on; a caller that reads many sectors makes them itself and calls `read_sector_with`. And
-// the closing code after the last sector of a run, judged.
+// The sector reader (document 01, 'Reading a word, and the repair'): 4,838 bytes of stream, a sector and the two bytes after it, to 2,366 bytes, as many marks
+// (document 02, request 2) and two tallies. The field's word for a marked byte is an erasure. The tables are made once a call of `read_sector` and lent from there
+// on; a caller that reads many sectors makes them itself and calls `read_sector_with`. And the closing code after the last sector of a run, judged.
 ghost use mathlib.Core.Path.{_≡_};
 ghost use Prim.Native.Nat.{_+_, _*_, _≤_};
 ghost use lib.ListN.{length};
@@ -9,10 +9,10 @@ ghost use Rattle.annexg.specs.Read.{tableOf};
 ghost use Rattle.wordindex.specs.Inner.{wordIndex};
 ghost use Rattle.annexg.specs.Sync.{syncTable};
 ghost use Rattle.layout.specs.Sectors.{frameCodes};
-ghost use Rattle.channel.specs.Block.{readSector};
+ghost use Rattle.channel.specs.Block.{readSector, erasuresOfSector};
 ghost use Rattle.layout.specs.Lengths.{sectorSize, sectorRead, frameHalves};
 ghost use Rattle.reader.specs.Closing.{closingHolds};
-ghost use Rattle.reader.specs.Sector.{lostSync, unknownTally, syncTally, sectorAnswer, sectorAfter, sectorReadRefusal, sectorReadNumber};
+ghost use Rattle.reader.specs.Sector.{lostSync, unknownTally, syncTally, sectorAnswer, sectorAfter, erasuresAfter, sectorReadRefusal, sectorReadNumber};
 use layout::CLOSING_SIZE;
 use layout::FRAME_BYTES;
 use layout::FRAME_HALVES;
@@ -38,14 +38,17 @@ fn read_bytes(
     index: &[u32; 8192],
     stream: &[u8],
     out: &mut [u8],
+    erasures: &mut [u8],
 ) -> u32
     requires { ⌜ (now words ≡ tableOf 0)
         × (now substitutes ≡ tableOf 1)
         × (now index ≡ wordIndex)
         × (length (now stream) ≡ sectorRead)
-        × (length (now out) ≡ sectorSize) ⌝ }
+        × (length (now out) ≡ sectorSize)
+        × (length (now erasures) ≡ sectorSize) ⌝ }
     ensures { λ r. ⌜ r ≡ unknownTally (now (stream .entry)) ⌝ }
     ensures { λ r. ⌜ now (out .exit) ≡ readSector (now (stream .entry)) ⌝ }
+    ensures { λ r. ⌜ now (erasures .exit) ≡ erasuresOfSector (now (stream .entry)) ⌝ }
 {
     let mut unknown: u32 = 0;
     let mut i: usize = 0;
@@ -55,8 +58,9 @@ fn read_bytes(
         let word = bytes::half_at(stream, k);
         let following = bytes::half_at(stream, k + 1);
         let r = wordindex::read_indexed(words, substitutes, index, word, following);
-        // the byte, or 256 for an unknown word, which gives byte 0
+        // the byte, or 256 for an unknown word, which gives byte 0 and is marked
         out[i] = (r % 256) as u8;
+        erasures[i] = (r / 256) as u8;
         unknown += r / 256;
         i += 1;
     }
@@ -100,7 +104,7 @@ fn lost_syncs(syncs: &[u16; 32], stream: &[u8]) -> u32
 
 // ---- the sector
 
-// The sector reader, for a caller that has the tables at hand. Where it refuses, the buffer is left as it was.
+// The sector reader, for a caller that has the tables at hand. Where it refuses, both buffers are left as they were.
 pub fn read_sector_with(
     words: &[u32; 1024],
     substitutes: &[u32; 352],
@@ -108,14 +112,16 @@ pub fn read_sector_with(
     syncs: &[u16; 32],
     stream: &[u8],
     out: &mut [u8],
+    erasures: &mut [u8],
 ) -> SectorRead
     requires { ⌜ (now words ≡ tableOf 0)
         × (now substitutes ≡ tableOf 1)
         × (now index ≡ wordIndex)
         × (now syncs ≡ syncTable) ⌝ }
-    ensures { λ r. ⌜ r ≡ sectorAnswer (now (stream .entry)) (length (now (out .entry))) ⌝ }
-    ensures { λ r. ⌜ sectorReadNumber r ≡ sectorReadRefusal (now (stream .entry)) (length (now (out .entry))) ⌝ }
-    ensures { λ r. ⌜ now (out .exit) ≡ sectorAfter (now (stream .entry)) (now (out .entry)) ⌝ }
+    ensures { λ r. ⌜ r ≡ sectorAnswer (now (stream .entry)) (length (now (out .entry))) (length (now (erasures .entry))) ⌝ }
+    ensures { λ r. ⌜ sectorReadNumber r ≡ sectorReadRefusal (now (stream .entry)) (length (now (out .entry))) (length (now (erasures .entry))) ⌝ }
+    ensures { λ r. ⌜ now (out .exit) ≡ sectorAfter (now (stream .entry)) (now (out .entry)) (length (now (erasures .entry))) ⌝ }
+    ensures { λ r. ⌜ now (erasures .exit) ≡ erasuresAfter (now (stream .entry)) (length (now (out .entry))) (now (erasures .entry)) ⌝ }
 {
     if stream.len() != SECTOR_READ {
         return SectorRead::LengthRefused;
@@ -123,22 +129,26 @@ pub fn read_sector_with(
     if out.len() != SECTOR_SIZE {
         return SectorRead::LengthRefused;
     }
-    let unknown = read_bytes(words, substitutes, index, stream, out);
+    if erasures.len() != SECTOR_SIZE {
+        return SectorRead::LengthRefused;
+    }
+    let unknown = read_bytes(words, substitutes, index, stream, out, erasures);
     let sync = lost_syncs(syncs, stream);
     SectorRead::Sector { unknown, sync }
 }
 
 // The sector reader.
-pub fn read_sector(stream: &[u8], out: &mut [u8]) -> SectorRead
-    ensures { λ r. ⌜ r ≡ sectorAnswer (now (stream .entry)) (length (now (out .entry))) ⌝ }
-    ensures { λ r. ⌜ sectorReadNumber r ≡ sectorReadRefusal (now (stream .entry)) (length (now (out .entry))) ⌝ }
-    ensures { λ r. ⌜ now (out .exit) ≡ sectorAfter (now (stream .entry)) (now (out .entry)) ⌝ }
+pub fn read_sector(stream: &[u8], out: &mut [u8], erasures: &mut [u8]) -> SectorRead
+    ensures { λ r. ⌜ r ≡ sectorAnswer (now (stream .entry)) (length (now (out .entry))) (length (now (erasures .entry))) ⌝ }
+    ensures { λ r. ⌜ sectorReadNumber r ≡ sectorReadRefusal (now (stream .entry)) (length (now (out .entry))) (length (now (erasures .entry))) ⌝ }
+    ensures { λ r. ⌜ now (out .exit) ≡ sectorAfter (now (stream .entry)) (now (out .entry)) (length (now (erasures .entry))) ⌝ }
+    ensures { λ r. ⌜ now (erasures .exit) ≡ erasuresAfter (now (stream .entry)) (length (now (out .entry))) (now (erasures .entry)) ⌝ }
 {
     let words = annexg::main_table();
     let substitutes = annexg::sub_table();
     let index = wordindex::word_index(&words, &substitutes);
     let syncs = annexg::sync_table();
-    read_sector_with(&words, &substitutes, &index, &syncs, stream, out)
+    read_sector_with(&words, &substitutes, &index, &syncs, stream, out, erasures)
 }
 
 // Document 01's number of an answer, 0 where nothing is refused.

@@ -1,21 +1,22 @@
 -- The definitions as loops compute them.
 -- Assumes nothing.
-use mathlib.Core.Path.{_≡_, sym, ap, ap₂, _∙_}
-use mathlib.Core.List.{List}
-use Prim.Native.Nat.{ℕ, suc, _+_, _-_, _<_, _≤_}
-use native.Mathlib.Nat.{le-refl}
+use mathlib.Core.Path.{_≡_, refl, sym, ap, ap₂, _∙_}
+use mathlib.Core.Bool.{Bool, true, false, cond}
+use mathlib.Core.List.{List, [], _∷_}
+use Prim.Native.Nat.{ℕ, zero, suc, _+_, _*_, _-_, _<_, _≤_}
+use native.Mathlib.Nat.{le-refl, mul-le-mul-right}
 use native.Mathlib.Numerals.{add-one}
 use native.Mathlib.Omega.{arith}
 use mathlib.Core.Logic.{dite}
 use native.Mathlib.Decide.{ℕ-discrete}
 use borrow.Author.Tests.{eq-eqb, ne-eqb}
-use lib.ListN.{length, getD, drop, drop-of-length-le, List·getD-eq-default}
+use lib.ListN.{length, getD, take, drop, replicate, drop-of-length-le, List·getD-eq-default}
 use lib.Seq.{drop-cons}
 use Rattle.lists.specs.Fill.{tabulate}
 use Rattle.lists.proofs.Fill.{length-tabulate, getD-tabulate}
 use Rattle.field.specs.Field.{add, mul, pow}
 use Rattle.field.proofs.Field.{add-assoc, add-zero, zero-add, mul-zero}
-use Rattle.codes.specs.Inner.{at, dot, polyAt, without, withoutOthers, spread, errorValue, change, mendFrom}
+use Rattle.codes.specs.Inner.{at, dot, polyAt, Locator, without, withoutMarked, withoutOthers, spread, errorValue, change, mendFrom}
 
 -- ---- a key equation, from the front on
 
@@ -44,6 +45,59 @@ unfolding polyAt
 poly-next c x i v p h e =
     let k : suc (i - 1) ≡ i = omega arith in
     ap (λ (y : ℕ). add (getD c (i - 1) 0) (mul x y)) (e ∙ ap (λ (n : ℕ). polyAt (drop n c) x) (sym k)) ∙ sym (ap (λ (l : List ℕ). polyAt l x) (drop-cons c (i - 1) 0 (omega arith)))
+
+-- ---- the marked places, taken out of the syndromes one after the other
+
+marked-same : (f : ℕ → Bool) (n : ℕ) (S R : ℕ → ℕ) → ((i : ℕ) → S i ≡ R i) → (i : ℕ) → withoutMarked f n S i ≡ withoutMarked f n R i
+unfolding withoutMarked
+marked-same f zero S R h i = h i
+marked-same f (suc n) S R h i = marked-same f n (cond (f n) (without (pow 2 n) S) S) (cond (f n) (without (pow 2 n) R) R) (each (f n)) i
+  where
+    each : (t : Bool) (j : ℕ) → cond t (without (pow 2 n) S) S j ≡ cond t (without (pow 2 n) R) R j
+    each true j = unfold without in ap₂ (λ (a b : ℕ). add a (mul (pow 2 n) b)) (h (suc j)) (h j)
+    each false j = h j
+
+module _ (f : ℕ → Bool) (k : ℕ) (pos : 0 < k) (S : ℕ → ℕ) where
+  next : suc (k - 1) ≡ k
+  next = omega arith
+
+  -- place k - 1 is marked, and its error is taken out,
+  pub marked-take : f (k - 1) ≡ true → (R : ℕ → ℕ) → ((i : ℕ) → R i ≡ without (pow 2 (k - 1)) S i) → (i : ℕ) → withoutMarked f (k - 1) R i ≡ withoutMarked f k S i
+  unfolding withoutMarked
+  marked-take e R h i =
+      marked-same f (k - 1) R (without (pow 2 (k - 1)) S) h i
+      ∙ ap (λ (t : Bool). withoutMarked f (k - 1) (cond t (without (pow 2 (k - 1)) S) S) i) (sym e) ∙ ap (λ (n : ℕ). withoutMarked f n S i) next
+
+  -- or it is not, and the syndromes stay
+  pub marked-skip : f (k - 1) ≡ false → (i : ℕ) → withoutMarked f (k - 1) S i ≡ withoutMarked f k S i
+  unfolding withoutMarked
+  marked-skip e i =
+      ap (λ (t : Bool). withoutMarked f (k - 1) (cond t (without (pow 2 (k - 1)) S) S) i) (sym e) ∙ ap (λ (n : ℕ). withoutMarked f n S i) next
+
+-- where nothing is marked they stay
+pub marked-none : (f : ℕ → Bool) (n : ℕ) (S : ℕ → ℕ) → ((k : ℕ) → f k ≡ false) → (i : ℕ) → withoutMarked f n S i ≡ S i
+unfolding withoutMarked
+marked-none f zero S h i = refl
+marked-none f (suc n) S h i = ap (λ (t : Bool). withoutMarked f n (cond t (without (pow 2 n) S) S) i) (h n) ∙ marked-none f n S h i
+
+dot-same : (c : List ℕ) (S R : ℕ → ℕ) → ((i : ℕ) → S i ≡ R i) → (i : ℕ) → dot c S i ≡ dot c R i
+unfolding dot
+dot-same [] S R h i = refl
+dot-same (c ∷ cs) S R h i = ap₂ add (ap (mul c) (h i)) (dot-same cs S R h (suc i))
+
+-- a locator for syndromes is one for the same syndromes
+pub locator-same : (S R : ℕ → ℕ) (t : ℕ) (c : List ℕ) → ((i : ℕ) → S i ≡ R i) → Locator S t c → Locator R t c
+locator-same S R t c h l = record { size = l .size; some = l .some; zeros = λ i k. sym (dot-same c S R h i) ∙ l .zeros i k }
+
+-- ---- the scratch of the locator: as much of it as t errors need
+
+pub take-zeros : (k n : ℕ) → k ≤ n → take k (replicate n 0) ≡ replicate {A = ℕ} k 0
+take-zeros zero n h = refl
+take-zeros (suc k) zero h = absurd (omega arith)
+take-zeros (suc k) (suc n) h = ap (λ (l : List ℕ). 0 ∷ l) (take-zeros k n (omega arith))
+
+pub pivots-fit : (t : ℕ) → t ≤ 5 → t * (t + 1) ≤ 30
+pivots-fit t h = let a : t * (t + 1) ≤ 5 * (t + 1) = mul-le-mul-right (t + 1) h in omega arith
 
 -- ---- the value of an error: the other errors taken out of the syndromes, one after the other
 

@@ -2,13 +2,13 @@
 // (document 01, 'Reading a word, and the repair').
 ghost use mathlib.Core.Path.{_≡_};
 ghost use Prim.Native.Nat.{_≤_};
-ghost use lib.ListN.{length, take};
+ghost use lib.ListN.{length, take, replicate};
 ghost use Rattle.lists.specs.Fill.{tabulate};
 ghost use Rattle.field.specs.Inner.{LogTable};
 ghost use Rattle.codes.specs.Word.{syndrome};
 ghost use Rattle.codes.specs.Nearest.{nearest, outcomeOf};
 ghost use Rattle.multiples.specs.Inner.{multiples};
-ghost use Rattle.codes.specs.Inner.{at, Locator, Places, mended};
+ghost use Rattle.codes.specs.Inner.{at, Locator, Places, AllBelow, mended};
 ghost use Rattle.layout.specs.Lengths.{rowCount};
 use codes::Outcome;
 use layout::ROW_COUNT;
@@ -45,14 +45,16 @@ fn column_locator(logs: &[u8; 768], syndromes: [u8; 16]) -> [u8; 9]
     locator
 }
 
+// No byte of a column is marked.
 fn column_search(logs: &[u8; 768], syndromes: [u8; 16]) -> ColumnPlaces
     requires { ⌜ LogTable (now logs) ⌝ }
     ensures { λ r. ⌜ r .count ≤ length (r .at) ⌝ }
-    ensures { λ r. ⌜ Places (at syndromes) 8 rowCount (take (r .count) (r .at)) ⌝ }
+    ensures { λ r. ⌜ Places (at syndromes) 8 (replicate rowCount 0) (take (r .count) (r .at)) ⌝ }
 {
     let locator = column_locator(logs, syndromes);
+    let unmarked = [0u8; ROW_COUNT];
     let mut at = [0u8; 8];
-    let count = crate::search::search(logs, &locator, ROW_COUNT as u8, &mut at);
+    let count = crate::search::search(logs, &locator, &unmarked, &mut at);
     ColumnPlaces { at, count }
 }
 
@@ -64,7 +66,7 @@ fn column_mend(
 ) -> [u8; ROW_COUNT]
     requires { ⌜ LogTable (now logs)
         × (places .count ≤ length (places .at))
-        × Places (at syndromes) 8 rowCount (take (places .count) (places .at)) ⌝ }
+        × AllBelow rowCount (take (places .count) (places .at)) ⌝ }
     ensures { λ r. ⌜ r ≡ mended (at syndromes) (take (places .count) (places .at)) bytes ⌝ }
 {
     let at = places.at;

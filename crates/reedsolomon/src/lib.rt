@@ -1,6 +1,7 @@
 // Reed-Solomon codes over GF(256): the inner code of 182 bytes with 10 roots and the outer code of 208 bytes with 16
 // (ECMA-268, clause 18).
 mod column;
+mod erasures;
 mod locate;
 mod mend;
 mod row;
@@ -12,6 +13,7 @@ pub use column::Column;
 pub use column::correct_column;
 pub use column::correct_column_from;
 pub use column::correct_column_with;
+pub use erasures::count_erasures;
 pub use parity::parity2;
 pub use parity::parity2_with;
 pub use parity::parity10;

@@ -1,13 +1,13 @@
 // The values of the errors, and the word without them.
 ghost use mathlib.Core.Path.{_≡_};
-ghost use Prim.Native.Nat.{ℕ, _<_};
-ghost use lib.ListN.{length, getD};
+ghost use Prim.Native.Nat.{_<_};
+ghost use lib.ListN.{length};
 ghost use Rattle.lists.specs.Fill.{tabulate};
 ghost use Rattle.field.specs.Inner.{LogTable};
-ghost use Rattle.codes.specs.Inner.{at, without, errorValue, mended};
+ghost use Rattle.codes.specs.Inner.{at, without, errorValue, AllBelow, mended};
 
 // The error with the locator x drops out of the syndromes: each becomes the next one and x times itself.
-fn take_out(logs: &[u8; 768], syndromes: &mut [u8], x: u8)
+pub(crate) fn take_out(logs: &[u8; 768], syndromes: &mut [u8], x: u8)
     requires { ⌜ LogTable (now logs) ⌝ }
     requires { ⌜ 0 < length (now syndromes) ⌝ }
     ensures { λ r. ⌜ now (syndromes .exit)
@@ -56,7 +56,7 @@ pub(crate) fn mend(
     requires { ⌜ LogTable (now logs)
         × (0 < length (now syndromes))
         × (length (now syndromes) ≡ length (now rest))
-        × ((j : ℕ) → j < length (now places) → getD (now places) j 0 < length (now word)) ⌝ }
+        × AllBelow (length (now word)) (now places) ⌝ }
     ensures { λ r. ⌜ now (word .exit)
         ≡ mended (at (now (syndromes .entry))) (now (places .entry)) (now (word .entry)) ⌝ }
 {

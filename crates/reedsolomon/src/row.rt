@@ -1,14 +1,14 @@
-// The repair of a row of 182 bytes with 10 roots: the nearest code row within five bytes
-// (document 01, 'Reading a word, and the repair').
+// The repair of a row of 182 bytes with 10 roots and its marks: the code row that differs in e unmarked bytes, where 2e and
+// the marks are at most ten (document 01, 'Reading a word, and the repair'; document 02, request 2).
 ghost use mathlib.Core.Path.{_≡_};
-ghost use Prim.Native.Nat.{_≤_};
+ghost use Prim.Native.Nat.{_+_, _≤_};
 ghost use lib.ListN.{length, take};
 ghost use Rattle.lists.specs.Fill.{tabulate};
 ghost use Rattle.field.specs.Inner.{LogTable};
 ghost use Rattle.codes.specs.Word.{syndrome};
-ghost use Rattle.codes.specs.Nearest.{nearest, outcomeOf};
+ghost use Rattle.codes.specs.Erasures.{erasureCount, nearestErased, outcomeErased};
 ghost use Rattle.multiples.specs.Inner.{multiples};
-ghost use Rattle.codes.specs.Inner.{at, Locator, Places, mended};
+ghost use Rattle.codes.specs.Inner.{at, Locator, erasedPlace, withoutMarked, Places, AllBelow, mended};
 ghost use Rattle.layout.specs.Lengths.{rowSize};
 use codes::Outcome;
 use layout::ROW_SIZE;
@@ -19,9 +19,9 @@ pub struct Row {
     pub outcome: Outcome,
 }
 
-// The places of the errors, of which there are at most five.
+// The places at which errors may stand: those marked, and those located beside them. There are at most ten.
 struct RowPlaces {
-    at: [u8; 5],
+    at: [u8; 10],
     count: usize,
 }
 
@@ -35,24 +35,47 @@ fn row_syndromes(logs: &[u8; 768], table: &[u64; 512], bytes: [u8; ROW_SIZE]) ->
     crate::syndromes::syndromes10(logs, left)
 }
 
-fn row_locator(logs: &[u8; 768], syndromes: [u8; 10]) -> [u8; 6]
-    requires { ⌜ LogTable (now logs) ⌝ }
-    ensures { λ r. ⌜ Locator (at syndromes) 5 r ⌝ }
+// A locator for the errors beside the marked bytes, of which there are at most half as many as syndromes are left.
+fn row_locator(
+    logs: &[u8; 768],
+    erasures: &[u8],
+    reach: usize,
+    syndromes: [u8; 10],
+) -> [u8; 6]
+    requires { ⌜ LogTable (now logs) × (length (now erasures) ≡ rowSize) × (reach ≤ 5) ⌝ }
+    ensures { λ r. ⌜ Locator
+        (withoutMarked (erasedPlace (now (erasures .entry))) (length (now (erasures .entry))) (at syndromes)) reach
+        (take (reach + 1) r) ⌝ }
 {
+    let mut rest = syndromes;
+    crate::erasures::take_out_erased(logs, erasures, &mut rest);
     let mut pivots = [0u8; 30];
     let mut locator = [0u8; 6];
-    crate::locate::locate(logs, &syndromes, &mut pivots, &mut locator);
+    let end = reach + 1;
+    crate::locate::locate(
+        logs,
+        &rest,
+        &mut pivots[..reach * end],
+        &mut locator[..end],
+    );
     locator
 }
 
-fn row_search(logs: &[u8; 768], syndromes: [u8; 10]) -> RowPlaces
-    requires { ⌜ LogTable (now logs) ⌝ }
+fn row_search(
+    logs: &[u8; 768],
+    erasures: &[u8],
+    reach: usize,
+    syndromes: [u8; 10],
+) -> RowPlaces
+    requires { ⌜ LogTable (now logs)
+        × (length (now erasures) ≡ rowSize)
+        × (reach + reach + erasureCount (now erasures) rowSize ≤ 10) ⌝ }
     ensures { λ r. ⌜ r .count ≤ length (r .at) ⌝ }
-    ensures { λ r. ⌜ Places (at syndromes) 5 rowSize (take (r .count) (r .at)) ⌝ }
+    ensures { λ r. ⌜ Places (at syndromes) reach (now (erasures .entry)) (take (r .count) (r .at)) ⌝ }
 {
-    let locator = row_locator(logs, syndromes);
-    let mut at = [0u8; 5];
-    let count = crate::search::search(logs, &locator, ROW_SIZE as u8, &mut at);
+    let locator = row_locator(logs, erasures, reach, syndromes);
+    let mut at = [0u8; 10];
+    let count = crate::search::search(logs, &locator[..reach + 1], erasures, &mut at);
     RowPlaces { at, count }
 }
 
@@ -64,7 +87,7 @@ fn row_mend(
 ) -> [u8; ROW_SIZE]
     requires { ⌜ LogTable (now logs)
         × (places .count ≤ length (places .at))
-        × Places (at syndromes) 5 rowSize (take (places .count) (places .at)) ⌝ }
+        × AllBelow rowSize (take (places .count) (places .at)) ⌝ }
     ensures { λ r. ⌜ r ≡ mended (at syndromes) (take (places .count) (places .at)) bytes ⌝ }
 {
     let at = places.at;
@@ -75,23 +98,37 @@ fn row_mend(
     near
 }
 
-// The repair of a row whose syndromes are known, over lent tables: of logarithms, and of the generator's multiples. The
-// syndromes decide, before and after mending.
-pub fn correct_row_from(logs: &[u8; 768], table: &[u64; 512], syndromes: [u8; 10], row: Row) -> Row
+// The repair of a row whose syndromes are known, over lent tables: of logarithms, and of the generator's multiples. With
+// more than ten marks it is past help, whatever its syndromes; else they decide, before and after mending.
+pub fn correct_row_from(
+    logs: &[u8; 768],
+    table: &[u64; 512],
+    erasures: &[u8],
+    syndromes: [u8; 10],
+    row: Row,
+) -> Row
     requires { ⌜ LogTable (now logs)
         × (now table ≡ multiples 10)
+        × (length (now erasures) ≡ rowSize)
         × (syndromes ≡ tabulate (syndrome (row .bytes)) 10) ⌝ }
-    ensures { λ r. ⌜ r .bytes ≡ nearest 10 5 (row .bytes) ⌝ }
-    ensures { λ r. ⌜ r .outcome ≡ outcomeOf 10 5 (row .bytes) ⌝ }
+    ensures { λ r. ⌜ r .bytes ≡ nearestErased 10 (now (erasures .entry)) (row .bytes) ⌝ }
+    ensures { λ r. ⌜ r .outcome ≡ outcomeErased 10 (now (erasures .entry)) (row .bytes) ⌝ }
 {
     let bytes = row.bytes;
+    let marked = crate::erasures::count_erasures(erasures);
+    if 10 < marked {
+        return Row {
+            bytes,
+            outcome: Outcome::Uncorrectable,
+        };
+    }
     if crate::syndromes::all_zero(&syndromes) {
         return Row {
             bytes,
             outcome: Outcome::Clean,
         };
     }
-    let places = row_search(logs, syndromes);
+    let places = row_search(logs, erasures, (10 - marked) / 2, syndromes);
     let near = row_mend(logs, bytes, syndromes, places);
     let again = row_syndromes(logs, table, near);
     if crate::syndromes::all_zero(&again) {
@@ -107,23 +144,29 @@ pub fn correct_row_from(logs: &[u8; 768], table: &[u64; 512], syndromes: [u8; 10
 }
 
 // The repair, over lent tables.
-pub fn correct_row_with(logs: &[u8; 768], table: &[u64; 512], row: Row) -> Row
+pub fn correct_row_with(
+    logs: &[u8; 768],
+    table: &[u64; 512],
+    erasures: &[u8; ROW_SIZE],
+    row: Row,
+) -> Row
     requires { ⌜ LogTable (now logs) ⌝ }
     requires { ⌜ now table ≡ multiples 10 ⌝ }
-    ensures { λ r. ⌜ r .bytes ≡ nearest 10 5 (row .bytes) ⌝ }
-    ensures { λ r. ⌜ r .outcome ≡ outcomeOf 10 5 (row .bytes) ⌝ }
+    ensures { λ r. ⌜ r .bytes ≡ nearestErased 10 (now (erasures .entry)) (row .bytes) ⌝ }
+    ensures { λ r. ⌜ r .outcome ≡ outcomeErased 10 (now (erasures .entry)) (row .bytes) ⌝ }
 {
     let bytes = row.bytes;
     let syndromes = row_syndromes(logs, table, bytes);
-    correct_row_from(logs, table, syndromes, row)
+    correct_row_from(logs, table, erasures, syndromes, row)
 }
 
-// The repair. The outcome that comes in does not matter.
-pub fn correct_row(row: Row) -> Row
-    ensures { λ r. ⌜ r .bytes ≡ nearest 10 5 (row .bytes) ⌝ }
-    ensures { λ r. ⌜ r .outcome ≡ outcomeOf 10 5 (row .bytes) ⌝ }
+// The repair. There is a mark for each byte: 1 where it is marked, and any other value says that it is not. The outcome that
+// comes in does not matter.
+pub fn correct_row(erasures: &[u8; ROW_SIZE], row: Row) -> Row
+    ensures { λ r. ⌜ r .bytes ≡ nearestErased 10 (now (erasures .entry)) (row .bytes) ⌝ }
+    ensures { λ r. ⌜ r .outcome ≡ outcomeErased 10 (now (erasures .entry)) (row .bytes) ⌝ }
 {
     let logs = field::log_table();
     let table = multiples::multiples10();
-    correct_row_with(&logs, &table, row)
+    correct_row_with(&logs, &table, erasures, row)
 }

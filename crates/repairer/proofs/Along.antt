@@ -1,6 +1,6 @@
 -- The words of a block along an axis, one text for rows and columns.
---   word-length, word-bytes, word-byte, nearest-size  a word's length and its bytes, and the length of what the repair gives for it
---   left-syndromes, syndromes-zero                    the syndromes of a word, from what is left of it by the generator; what they decide
+--   word-length, word-bytes, word-byte, repaired-size a word's length and its bytes, and the length of what the repair gives for it
+--   left-syndromes, row-clean, column-clean           the syndromes of a word, from what is left of it by the generator; where they are all 0
 --   inWord, atByte, place-at, in-place                in which word the byte p of a block stands, and as which of its bytes
 --   WordsUpto                                         the words before k are repaired, and everything else is as it was
 --   words-none, word-same, words-more, words-all      its steps
@@ -14,7 +14,7 @@ use native.Mathlib.Decide.{ℕ-discrete}
 use native.Mathlib.Omega.{arith}
 use borrow.Author.Tests.{ltb-true, ltb-false}
 use lib.Dec.{ltb}
-use lib.ListN.{length, getD, take}
+use lib.ListN.{length, getD, take, replicate, length-replicate}
 use lib.Seq.{ext-getD}
 use Rattle.lists.specs.Bytes.{Bytes}
 use Rattle.lists.specs.Fill.{tabulate}
@@ -22,35 +22,35 @@ use Rattle.lists.proofs.Fill.{is-tabulate}
 use Rattle.codes.specs.Word.{syndrome, allZero}
 use Rattle.codes.specs.Parity.{parity}
 use Rattle.codes.specs.Nearest.{nearest, outcomeOf}
+use Rattle.codes.specs.Erasures.{erasureCount, nearestErased, outcomeErased}
 use Rattle.codes.specs.declared.Outcome.{Outcome}
 use Rattle.codes.proofs.Nearest.{nearest-length}
+use Rattle.codes.proofs.Erasures.{erased-length}
 use Rattle.codes.specs.declared.Outcome.the-variants.{Clean}
 use Rattle.multiples.specs.Inner.{high, low}
 use Rattle.division.specs.Inner.{remainderOf, unpacked}
 use Rattle.bytes.specs.Inner.{Stored}
-use Rattle.layout.specs.Rows.{originalRow}
+use Rattle.layout.specs.Rows.{originalRow, rowOf, columnOf}
 use Rattle.layout.proofs.Order.{recording-original}
 use Rattle.layout.proofs.Places.{row-length, row-bytes, row-byte, column-length, column-bytes, column-byte}
-use Rattle.reedsolomon.proofs.Repair.{Shape, row-shape, column-shape, word-syndromes, word-clean}
+use Rattle.reedsolomon.proofs.Repair.{Shape, row-shape, column-shape, word-syndromes, word-clean, zeros-count, unmarked-repaired}
 use Rattle.layout.specs.Lengths.{blockSize, rowCount, rowSize, columnCount, dataRows}
 use Rattle.repairer.specs.Repair.{rowsRepaired, columnsRepaired}
-use Rattle.repairer.specs.Inner.{rootsOf, reachOf, countOf, sizeOf, wordOf, placeOf, repairedAlong, Divided}
+use Rattle.repairer.specs.Inner.{rootsOf, countOf, sizeOf, wordOf, placeOf, repairedWord, outcomeOfWord, repairedAlong, Divided}
 use Rattle.repairer.specs.declared.words.Axis.{Axis}
 use Rattle.repairer.specs.declared.words.Axis.the-variants.{Rows, Columns}
 
 -- ---- a word
 
--- of word k became r, and what the repair gives for it stands in its place
-abbrev pub RepairedWord : Axis → List ℕ → ℕ → Outcome → List ℕ → Type 0
-RepairedWord a xs k r new =
-    (r ≡ outcomeOf (rootsOf a) (reachOf a) (wordOf a xs k))
-    × Stored (placeOf a k) (nearest (rootsOf a) (reachOf a) (wordOf a xs k)) xs new (sizeOf a)
+-- of word k became r, and what the repair gives for it stands in its place. ms are the marks of the block's bytes
+abbrev pub RepairedWord : Axis → List ℕ → List ℕ → ℕ → Outcome → List ℕ → Type 0
+RepairedWord a ms xs k r new = (r ≡ outcomeOfWord a ms xs k) × Stored (placeOf a k) (repairedWord a ms xs k) xs new (sizeOf a)
 
 -- along b, which is the axis a
-pub repaired-along : (a b : Axis) → a ≡ b → (xs : List ℕ) (k : ℕ) (r : Outcome) (new : List ℕ) → RepairedWord b xs k r new → RepairedWord a xs k r new
-repaired-along a b e xs k r new h = subst (λ (x : Axis). RepairedWord x xs k r new) (sym e) h
+pub repaired-along : (a b : Axis) → a ≡ b → (ms xs : List ℕ) (k : ℕ) (r : Outcome) (new : List ℕ) → RepairedWord b ms xs k r new → RepairedWord a ms xs k r new
+repaired-along a b e ms xs k r new h = subst (λ (x : Axis). RepairedWord x ms xs k r new) (sym e) h
 
-pub word-shape : (a : Axis) → Shape (sizeOf a) (rootsOf a) (reachOf a)
+pub word-shape : (a : Axis) → Shape (sizeOf a) (rootsOf a)
 word-shape Rows = row-shape
 word-shape Columns = column-shape
 
@@ -66,10 +66,19 @@ word-byte : (a : Axis) (xs : List ℕ) (k i : ℕ) → i < sizeOf a → getD (wo
 word-byte Rows xs k i l = row-byte xs k i l
 word-byte Columns xs k i l = column-byte xs k i l
 
-pub nearest-size :
-    (a : Axis) (xs : List ℕ) (k : ℕ) → length xs ≡ blockSize → ((i : ℕ) → getD xs i 0 < 256) → k < countOf a
-    → length (nearest (rootsOf a) (reachOf a) (wordOf a xs k)) ≡ sizeOf a
-nearest-size a xs k e small h = nearest-length (rootsOf a) (reachOf a) (wordOf a xs k) (word-bytes a xs small k) ∙ word-length a xs k e h
+pub repaired-size :
+    (a : Axis) (ms xs : List ℕ) (k : ℕ) → length xs ≡ blockSize → ((i : ℕ) → getD xs i 0 < 256) → k < countOf a → length (repairedWord a ms xs k) ≡ sizeOf a
+repaired-size Rows ms xs k e small h = erased-length 10 (rowOf ms k) (rowOf xs k) (word-bytes Rows xs small k) ∙ word-length Rows xs k e h
+repaired-size Columns ms xs k e small h = nearest-length 16 8 (columnOf xs k) (word-bytes Columns xs small k) ∙ word-length Columns xs k e h
+
+-- what becomes of a word goes by the word, and by the marks of its bytes
+repaired-same : (a : Axis) (ms xs ys : List ℕ) (k : ℕ) → wordOf a xs k ≡ wordOf a ys k → repairedWord a ms xs k ≡ repairedWord a ms ys k
+repaired-same Rows ms xs ys k e = ap (nearestErased 10 (rowOf ms k)) e
+repaired-same Columns ms xs ys k e = ap (nearest 16 8) e
+
+pub outcome-same : (a : Axis) (ms xs ys : List ℕ) (k : ℕ) → wordOf a xs k ≡ wordOf a ys k → outcomeOfWord a ms xs k ≡ outcomeOfWord a ms ys k
+outcome-same Rows ms xs ys k e = ap (outcomeErased 10 (rowOf ms k)) e
+outcome-same Columns ms xs ys k e = ap (outcomeOf 16 8) e
 
 -- there are no more words than rows
 pub count-most : (a : Axis) → countOf a ≤ rowCount
@@ -91,18 +100,28 @@ module _ (a : Axis) (xs : List ℕ) (k : ℕ) (e : length xs ≡ blockSize) (sma
       → s ≡ tabulate (syndrome (take (rootsOf a) (unpacked x y))) (rootsOf a) → s ≡ tabulate (syndrome (wordOf a xs k)) (rootsOf a)
   left-syndromes x y s ex ey es = word-syndromes (word-shape a) (wordOf a xs k) (word-length a xs k e h) (word-bytes a xs small k) x y s ex ey es
 
-  -- the syndromes of word k are all 0, and b says so: it is a code word, and stands in its place already
-  pub syndromes-zero :
-      (s : List ℕ) → s ≡ tabulate (syndrome (wordOf a xs k)) (rootsOf a) → (b : Bool) → b ≡ allZero s → b ≡ true → RepairedWord a xs k Clean xs
-  syndromes-zero s es b eb t =
-      let r = word-clean (word-shape a) (wordOf a xs k) (word-length a xs k e h) (word-bytes a xs small k) s es b eb t in (
-        r .1,
-        record {
-          size = refl;
-          done = λ i l. sym (word-byte a xs k i l) ∙ ap (λ (v : List ℕ). getD v i 0) (r .0);
-          left = λ q f. refl;
-        },
-      )
+-- a word that becomes itself stands in its place already
+stays : (a : Axis) (ms xs : List ℕ) (k : ℕ) → wordOf a xs k ≡ repairedWord a ms xs k → Stored (placeOf a k) (repairedWord a ms xs k) xs xs (sizeOf a)
+stays a ms xs k e = record { size = refl; done = λ i l. sym (word-byte a xs k i l) ∙ ap (λ (v : List ℕ). getD v i 0) e; left = λ q f. refl }
+
+-- the syndromes of word k are all 0, and b says so: it is a code word, and stays
+module _ (ms xs : List ℕ) (k : ℕ) (e : length xs ≡ blockSize) (small : (i : ℕ) → getD xs i 0 < 256) where
+  -- a row, with f marks, at most ten
+  pub row-clean :
+      length ms ≡ blockSize → k < rowCount → (f : ℕ) → f ≡ erasureCount (rowOf ms k) rowSize → f ≤ 10
+      → (s : List ℕ) → s ≡ tabulate (syndrome (rowOf xs k)) 10 → (b : Bool) → b ≡ allZero s → b ≡ true → RepairedWord Rows ms xs k Clean xs
+  row-clean m h f ef fits s es b eb t =
+      let r = word-clean row-shape (rowOf xs k) (row-length xs k e h) (row-bytes xs small k) (rowOf ms k) (row-length ms k m h) f ef fits s es b eb t in
+      (r .1, stays Rows ms xs k (r .0))
+
+  pub column-clean :
+      (s : List ℕ) → s ≡ tabulate (syndrome (columnOf xs k)) 16 → (b : Bool) → b ≡ allZero s → b ≡ true → RepairedWord Columns ms xs k Clean xs
+  column-clean s es b eb t =
+      let w : List ℕ = columnOf xs k in
+      let r =
+      unmarked-repaired rowCount 8 w w Clean (column-bytes xs small k)
+      (word-clean column-shape w (column-length xs k) (column-bytes xs small k) (replicate rowCount 0) (length-replicate {A = ℕ} rowCount 0) 0 (zeros-count rowCount) (omega arith) s es b eb t) in
+      (r .1, stays Columns ms xs k (r .0))
 
 -- ---- where byte p of a block stands
 
@@ -127,18 +146,18 @@ in-place Columns k i h l = omega arith
 -- ---- the repair, one word at a time
 
 -- byte p after the repair of the word that it stands in
-abbrev pub wordByte : Axis → List ℕ → ℕ → ℕ
-wordByte a xs p = getD (nearest (rootsOf a) (reachOf a) (wordOf a xs (inWord a p))) (atByte a p) 0
+abbrev pub wordByte : Axis → List ℕ → List ℕ → ℕ → ℕ
+wordByte a ms xs p = getD (repairedWord a ms xs (inWord a p)) (atByte a p) 0
 
-pub record WordsUpto (a : Axis) (old xs : List ℕ) (k : ℕ) : Type 0 where
+pub record WordsUpto (a : Axis) (ms old xs : List ℕ) (k : ℕ) : Type 0 where
   pub size : length xs ≡ length old
-  pub done : (p : ℕ) → p < blockSize → inWord a p < k → getD xs p 0 ≡ wordByte a old p
+  pub done : (p : ℕ) → p < blockSize → inWord a p < k → getD xs p 0 ≡ wordByte a ms old p
   pub left : (p : ℕ) → k ≤ inWord a p → getD xs p 0 ≡ getD old p 0
 
-pub words-none : (a : Axis) (old : List ℕ) → WordsUpto a old old 0
-words-none a old = record { size = refl; done = λ p l h. absurd (omega arith); left = λ p h. refl }
+pub words-none : (a : Axis) (ms old : List ℕ) → WordsUpto a ms old old 0
+words-none a ms old = record { size = refl; done = λ p l h. absurd (omega arith); left = λ p h. refl }
 
-module _ (a : Axis) (old xs : List ℕ) (k : ℕ) (e : length old ≡ blockSize) (h : k < countOf a) (u : WordsUpto a old xs k) where
+module _ (a : Axis) (ms old xs : List ℕ) (k : ℕ) (e : length old ≡ blockSize) (h : k < countOf a) (u : WordsUpto a ms old xs k) where
   -- a word that has not had its turn is as it was
   pub word-same : wordOf a xs k ≡ wordOf a old k
   word-same =
@@ -148,34 +167,34 @@ module _ (a : Axis) (old xs : List ℕ) (k : ℕ) (e : length old ≡ blockSize)
       let m : i < sizeOf a = omega (arith, n) in
       word-byte a xs k i m ∙ u .left (placeOf a k i) (omega (arith, in-place a k i h m)) ∙ sym (word-byte a old k i m))
 
-  module _ (new : List ℕ) (w : Stored (placeOf a k) (nearest (rootsOf a) (reachOf a) (wordOf a xs k)) xs new (sizeOf a)) where
+  module _ (new : List ℕ) (w : Stored (placeOf a k) (repairedWord a ms xs k) xs new (sizeOf a)) where
     other : (p : ℕ) → inWord a p ≢ k → getD new p 0 ≡ getD xs p 0
     other p n = w .left p (λ i l q. n (ap (inWord a) q ∙ in-place a k i h l))
 
-    here : (p : ℕ) → p < blockSize → inWord a p ≡ k → getD new p 0 ≡ wordByte a old p
+    here : (p : ℕ) → p < blockSize → inWord a p ≡ k → getD new p 0 ≡ wordByte a ms old p
     here p l q =
         let o = place-at a p l in
         getD new p 0
         ≡⟨ ap (λ (x : ℕ). getD new x 0) (o .1 ∙ ap (λ (x : ℕ). placeOf a x (atByte a p)) q) ⟩
         getD new (placeOf a k (atByte a p)) 0
         ≡⟨ w .done (atByte a p) (o .0) ⟩
-        getD (nearest (rootsOf a) (reachOf a) (wordOf a xs k)) (atByte a p) 0
-        ≡⟨ ap (λ (v : List ℕ). getD (nearest (rootsOf a) (reachOf a) v) (atByte a p) 0) (word-same ∙ ap (wordOf a old) (sym q)) ⟩
-        wordByte a old p ∎
+        getD (repairedWord a ms xs k) (atByte a p) 0
+        ≡⟨ ap (λ (v : List ℕ). getD v (atByte a p) 0) (repaired-same a ms xs old k word-same ∙ ap (repairedWord a ms old) (sym q)) ⟩
+        wordByte a ms old p ∎
 
-    pub words-more : WordsUpto a old new (k + 1)
+    pub words-more : WordsUpto a ms old new (k + 1)
     words-more = record {
       size = w .size ∙ u .size;
       done = λ p l m. dite (ℕ-discrete (inWord a p) k) (λ q. here p l q) (λ n. other p n ∙ u .done p l (omega (arith, n)));
       left = λ p m. other p (λ q. omega (arith, q)) ∙ u .left p (omega arith);
     }
 
-pub words-all : (a : Axis) (old xs : List ℕ) → length old ≡ blockSize → WordsUpto a old xs (countOf a) → xs ≡ repairedAlong a old
+pub words-all : (a : Axis) (ms old xs : List ℕ) → length old ≡ blockSize → WordsUpto a ms old xs (countOf a) → xs ≡ repairedAlong a ms old
 unfolding rowsRepaired columnsRepaired
-words-all Rows old xs e u = is-tabulate (wordByte Rows old) xs blockSize (u .size ∙ e) (λ p l. u .done p l (omega arith))
-words-all Columns old xs e u =
-    is-tabulate (λ p. cond (ltb (p % rowSize) columnCount) (wordByte Columns old p) (getD old p 0)) xs blockSize (u .size ∙ e) (λ p l. go p l (ltb (p % rowSize) columnCount) refl)
+words-all Rows ms old xs e u = is-tabulate (wordByte Rows ms old) xs blockSize (u .size ∙ e) (λ p l. u .done p l (omega arith))
+words-all Columns ms old xs e u =
+    is-tabulate (λ p. cond (ltb (p % rowSize) columnCount) (wordByte Columns ms old p) (getD old p 0)) xs blockSize (u .size ∙ e) (λ p l. go p l (ltb (p % rowSize) columnCount) refl)
   where
-    go : (p : ℕ) → p < blockSize → (b : Bool) → ltb (p % rowSize) columnCount ≡ b → getD xs p 0 ≡ cond (ltb (p % rowSize) columnCount) (wordByte Columns old p) (getD old p 0)
+    go : (p : ℕ) → p < blockSize → (b : Bool) → ltb (p % rowSize) columnCount ≡ b → getD xs p 0 ≡ cond (ltb (p % rowSize) columnCount) (wordByte Columns ms old p) (getD old p 0)
     go p l true t = u .done p l (ltb-true (p % rowSize) columnCount t) ∙ rw t
     go p l false t = u .left p (ltb-false (p % rowSize) columnCount t) ∙ rw t

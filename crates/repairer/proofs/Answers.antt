@@ -1,57 +1,60 @@
 -- The answers of the block repairer, case by case, with what is left in the buffers.
 -- Assumes nothing.
 use mathlib.Core.Path.{_≡_, refl, sym, ap, ap₂, _∙_}
-use mathlib.Core.Bool.{Bool, true, false, cond}
+use mathlib.Core.Bool.{Bool, true, false, cond, _&&_}
 use mathlib.Core.List.{List}
 use mathlib.Core.Logic.{_≢_}
 use Prim.Native.Nat.{ℕ, zero, suc}
-use borrow.Author.Tests.{eq-eqb, ne-eqb, eqb-false}
-use lib.Dec.{eqb}
+use borrow.Author.Tests.{eqb-false}
+use lib.Dec.{eqb, eqb→eq}
 use lib.ListN.{length}
+use Rattle.lists.proofs.Test.{and-left, and-right, truth-of}
 use Rattle.dataframe.specs.Checks.{numberOf, mainOfBlock}
-use Rattle.layout.specs.Rows.{rowOf, columnOf, frameOf}
+use Rattle.layout.specs.Rows.{frameOf}
 use Rattle.layout.specs.Lengths.{mainSize, blockSize, rowCount, columnCount}
 use Rattle.repairer.specs.Repair.{rowsRepaired, columnsRepaired, repaired, tallyOf, talliesOf}
-use Rattle.repairer.specs.Answer.{frameFault, judged, lengthsFit, repairAnswer, handsOut, blockAfter, mainAfter, repairNumber, repairRefusal, repairFrame, refusedFrame}
+use Rattle.repairer.specs.Answer.{frameFault, judged, lengthsFit, marksFit, repairs, repairAnswer, handsOut, blockAfter, mainAfter, repairNumber, repairRefusal, repairFrame, refusedFrame}
+use Rattle.repairer.specs.Inner.{outcomeOfWord}
 use Rattle.repairer.specs.declared.Tally.{Tally}
 use Rattle.repairer.specs.declared.Tallies.{Tallies}
 use Rattle.repairer.specs.declared.Repaired.{Repaired}
-use Rattle.repairer.specs.declared.Repaired.the-variants.{Block, FrameRefused, LengthRefused}
+use Rattle.repairer.specs.declared.Repaired.the-variants.{Block, FrameRefused, ErasureRefused, LengthRefused}
+use Rattle.repairer.specs.declared.words.Axis.the-variants.{Rows, Columns}
 use Rattle.repairer.proofs.Numbers.{repair-number, repair-frame}
 
 -- what the repairer's contract asks of an answer and of the two buffers
-abbrev pub Meets : List ℕ → List ℕ → Repaired → List ℕ → List ℕ → Type 0
-Meets xs old r ys new =
-    (r ≡ repairAnswer xs (length old))
-    × ((repairNumber r ≡ repairRefusal xs (length old))
-    × ((repairFrame r ≡ refusedFrame xs (length old)) × ((ys ≡ blockAfter xs (length old)) × (new ≡ mainAfter xs old))))
+abbrev pub Meets : List ℕ → List ℕ → List ℕ → Repaired → List ℕ → List ℕ → Type 0
+Meets xs ms old r ys new =
+    (r ≡ repairAnswer xs ms (length old))
+    × ((repairNumber r ≡ repairRefusal xs ms (length old))
+    × ((repairFrame r ≡ refusedFrame xs ms (length old)) × ((ys ≡ blockAfter xs ms (length old)) × (new ≡ mainAfter xs ms old))))
 
 -- number and frame follow from the answer
 meets :
-    (xs old : List ℕ) (r : Repaired) (ys new : List ℕ) → r ≡ repairAnswer xs (length old) → ys ≡ blockAfter xs (length old) → new ≡ mainAfter xs old
-    → Meets xs old r ys new
-meets xs old r ys new a b m = (a, (ap repairNumber a ∙ repair-number xs (length old), (ap repairFrame a ∙ repair-frame xs (length old), (b, m))))
+    (xs ms old : List ℕ) (r : Repaired) (ys new : List ℕ) → r ≡ repairAnswer xs ms (length old) → ys ≡ blockAfter xs ms (length old) → new ≡ mainAfter xs ms old
+    → Meets xs ms old r ys new
+meets xs ms old r ys new a b m = (a, (ap repairNumber a ∙ repair-number xs ms (length old), (ap repairFrame a ∙ repair-frame xs ms (length old), (b, m))))
 
 -- the judgement over the repaired block
-abbrev verdict : List ℕ → Repaired
-verdict xs = judged (repaired xs) 0 16 (Block (numberOf (frameOf (repaired xs) 0)) (talliesOf xs))
+abbrev verdict : List ℕ → List ℕ → Repaired
+verdict xs ms = judged (repaired xs ms) 0 16 (Block (numberOf (frameOf (repaired xs ms) 0)) (talliesOf xs ms))
 
 -- the answer r over the block ys after both repairs
-pub record Verdict (xs ys : List ℕ) (r : Repaired) : Type 0 where
-  pub block : ys ≡ repaired xs
-  pub answer : r ≡ verdict xs
+pub record Verdict (xs ms ys : List ℕ) (r : Repaired) : Type 0 where
+  pub block : ys ≡ repaired xs ms
+  pub answer : r ≡ verdict xs ms
 
 abbrev both : Tally → Tally → Tallies
 both x y = record { rows = x; columns = y }
 
 pub stages :
-    (xs ys zs : List ℕ) (m n : Tally) (r : Repaired) → (m ≡ tallyOf 10 5 (rowOf xs) rowCount) × (ys ≡ rowsRepaired xs)
-    → (n ≡ tallyOf 16 8 (columnOf ys) columnCount) × (zs ≡ columnsRepaired ys)
-    → r ≡ judged zs 0 16 (Block (numberOf (frameOf zs 0)) (record { rows = m; columns = n })) → Verdict xs zs r
+    (xs ms ys zs : List ℕ) (m n : Tally) (r : Repaired) → (m ≡ tallyOf (outcomeOfWord Rows ms xs) rowCount) × (ys ≡ rowsRepaired xs ms)
+    → (n ≡ tallyOf (outcomeOfWord Columns ms ys) columnCount) × (zs ≡ columnsRepaired ys)
+    → r ≡ judged zs 0 16 (Block (numberOf (frameOf zs 0)) (record { rows = m; columns = n })) → Verdict xs ms zs r
 unfolding repaired talliesOf
-stages xs ys zs m n r a b d =
-    let z : zs ≡ columnsRepaired (rowsRepaired xs) = b .1 ∙ ap columnsRepaired (a .1) in
-    let v : n ≡ tallyOf 16 8 (columnOf (rowsRepaired xs)) columnCount = b .0 ∙ ap (λ (w : List ℕ). tallyOf 16 8 (columnOf w) columnCount) (a .1) in
+stages xs ms ys zs m n r a b d =
+    let z : zs ≡ columnsRepaired (rowsRepaired xs ms) = b .1 ∙ ap columnsRepaired (a .1) in
+    let v : n ≡ tallyOf (outcomeOfWord Columns ms (rowsRepaired xs ms)) columnCount = b .0 ∙ ap (λ (w : List ℕ). tallyOf (outcomeOfWord Columns ms w) columnCount) (a .1) in
     record {
       block = z;
       answer = d ∙ ap₂ (λ (w : List ℕ) (x : Tallies). judged w 0 16 (Block (numberOf (frameOf w 0)) x)) z (ap₂ both (a .0) v);
@@ -72,44 +75,58 @@ passed ys k (suc n) first t z = go (eqb (frameFault ys k) 0) refl (judged ys (su
 held : (r : Repaired) → repairNumber r ≢ 0 → handsOut r ≡ false
 held (Block first tallies) m = absurd (m refl)
 held (FrameRefused number frame) m = refl
+held ErasureRefused m = refl
 held LengthRefused m = refl
 
-module _ (xs old : List ℕ) where
-  misfit : lengthsFit xs (length old) ≡ false → Meets xs old LengthRefused xs old
-  unfolding repairAnswer blockAfter mainAfter
-  misfit e = meets xs old LengthRefused xs old (rw e) (rw e) (rw e)
+-- fits says whether the lengths are as stated
+module _ (xs ms old : List ℕ) (fits : Bool) (ef : fits ≡ lengthsFit xs ms (length old)) where
+  pub length-refused : fits ≡ false → Meets xs ms old LengthRefused xs old
+  unfolding repairAnswer blockAfter mainAfter repairs
+  length-refused n = let z : lengthsFit xs ms (length old) ≡ false = sym ef ∙ n in meets xs ms old LengthRefused xs old (rw z) (rw z) (rw z)
 
-  pub block-misfits : length xs ≢ blockSize → Meets xs old LengthRefused xs old
-  unfolding lengthsFit
-  block-misfits n = misfit (rw (ne-eqb (length xs) blockSize n))
+  module _ (y : fits ≡ true) where
+    fit : lengthsFit xs ms (length old) ≡ true
+    fit = sym ef ∙ y
 
-  pub main-misfits : length xs ≡ blockSize → length old ≢ mainSize → Meets xs old LengthRefused xs old
-  unfolding lengthsFit
-  main-misfits e n = misfit (rw (eq-eqb (length xs) blockSize e, ne-eqb (length old) mainSize n))
-
-  module _ (e : length xs ≡ blockSize) (f : length old ≡ mainSize) where
-    fit : lengthsFit xs (length old) ≡ true
+    -- each of the three
+    pub sizes : (length xs ≡ blockSize) × (length ms ≡ blockSize) × (length old ≡ mainSize)
     unfolding lengthsFit
-    fit = rw (eq-eqb (length xs) blockSize e, eq-eqb (length old) mainSize f)
+    sizes =
+        let a : Bool = eqb (length xs) blockSize in
+        let b : Bool = eqb (length ms) blockSize in
+        let c : Bool = eqb (length old) mainSize in
+        let h = truth-of (a && (b && c)) fit in
+        let k = and-right a (b && c) h in
+        (eqb→eq (length xs) blockSize (and-left a (b && c) h), eqb→eq (length ms) blockSize (and-left b c k), eqb→eq (length old) mainSize (and-right b c k))
 
-    answered : verdict xs ≡ repairAnswer xs (length old)
-    unfolding repairAnswer
-    answered = rw fit
+    -- t says whether the marks fit
+    module _ (t : Bool) (et : t ≡ marksFit ms) where
+      pub mark-refused : t ≡ false → Meets xs ms old ErasureRefused xs old
+      unfolding repairAnswer blockAfter mainAfter repairs
+      mark-refused n = let z : marksFit ms ≡ false = sym et ∙ n in meets xs ms old ErasureRefused xs old (rw (fit, z)) (rw (fit, z)) (rw (fit, z))
 
-    block-left : repaired xs ≡ blockAfter xs (length old)
-    unfolding blockAfter
-    block-left = rw fit
+      module _ (u : t ≡ true) where
+        marked : marksFit ms ≡ true
+        marked = sym et ∙ u
 
-    module _ (ys : List ℕ) (r : Repaired) (v : Verdict xs ys r) where
-      answer : r ≡ repairAnswer xs (length old)
-      answer = v .answer ∙ answered
+        answered : verdict xs ms ≡ repairAnswer xs ms (length old)
+        unfolding repairAnswer
+        answered = rw (fit, marked)
 
-      pub frame-refused : repairNumber r ≢ 0 → Meets xs old r ys old
-      unfolding mainAfter
-      frame-refused n = meets xs old r ys old answer (v .block ∙ block-left) (rw (ap handsOut (sym answer) ∙ held r n))
+        block-left : repaired xs ms ≡ blockAfter xs ms (length old)
+        unfolding blockAfter repairs
+        block-left = rw (fit, marked)
 
-      pub handed-out : (new : List ℕ) → repairNumber r ≡ 0 → new ≡ mainOfBlock ys → Meets xs old r ys new
-      unfolding mainAfter
-      handed-out new z m =
-          let o = passed (repaired xs) 0 16 (numberOf (frameOf (repaired xs) 0)) (talliesOf xs) (ap repairNumber (sym (v .answer)) ∙ z) in
-          meets xs old r ys new answer (v .block ∙ block-left) (m ∙ ap mainOfBlock (v .block) ∙ rw (ap handsOut (sym answered) ∙ o))
+        module _ (ys : List ℕ) (r : Repaired) (v : Verdict xs ms ys r) where
+          answer : r ≡ repairAnswer xs ms (length old)
+          answer = v .answer ∙ answered
+
+          pub frame-refused : repairNumber r ≢ 0 → Meets xs ms old r ys old
+          unfolding mainAfter
+          frame-refused n = meets xs ms old r ys old answer (v .block ∙ block-left) (rw (ap handsOut (sym answer) ∙ held r n))
+
+          pub handed-out : (new : List ℕ) → repairNumber r ≡ 0 → new ≡ mainOfBlock ys → Meets xs ms old r ys new
+          unfolding mainAfter
+          handed-out new z m =
+              let o = passed (repaired xs ms) 0 16 (numberOf (frameOf (repaired xs ms) 0)) (talliesOf xs ms) (ap repairNumber (sym (v .answer)) ∙ z) in
+              meets xs ms old r ys new answer (v .block ∙ block-left) (m ∙ ap mainOfBlock (v .block) ∙ rw (ap handsOut (sym answered) ∙ o))

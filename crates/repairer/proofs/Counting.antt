@@ -1,11 +1,9 @@
 -- Tallies, one word at a time.
 -- Assumes nothing.
 use mathlib.Core.Path.{_≡_, refl, sym, ap, ap₂, _∙_}
-use mathlib.Core.List.{List}
 use Prim.Native.Nat.{ℕ, _+_, _<_, _≤_}
 use native.Mathlib.Omega.{arith}
 use Rattle.lists.proofs.Count.{count-snoc, count-le}
-use Rattle.codes.specs.Nearest.{outcomeOf}
 use Rattle.codes.specs.declared.Outcome.{Outcome}
 use Rattle.codes.specs.declared.Outcome.the-variants.{Clean, Corrected, Uncorrectable}
 use Rattle.layout.specs.Lengths.{rowCount}
@@ -33,31 +31,29 @@ counted-corrected n o e = let a : n .uncorrectable ≡ n .uncorrectable + 0 = om
 pub counted-uncorrectable : (n : Tally) (o : Outcome) → o ≡ Uncorrectable → both (n .corrected) (n .uncorrectable + 1) ≡ counted n o
 counted-uncorrectable n o e = let a : n .corrected ≡ n .corrected + 0 = omega arith in ap (λ (x : ℕ). both x (n .uncorrectable + 1)) a ∙ ap (counted n) (sym e)
 
--- ---- one word more
+-- ---- one word more. o i is what becomes of word i
 
-module _ (p t : ℕ) (w : ℕ → List ℕ) where
-  pub tally-none : _≡_ {A = Tally} (record { corrected = 0; uncorrectable = 0 }) (tallyOf p t w 0)
+module _ (o : ℕ → Outcome) where
+  pub tally-none : _≡_ {A = Tally} (record { corrected = 0; uncorrectable = 0 }) (tallyOf o 0)
   unfolding tallyOf
   tally-none = refl
 
-  tally-corrected : (n : ℕ) → tallyOf p t w n .corrected ≤ n
+  tally-corrected : (n : ℕ) → tallyOf o n .corrected ≤ n
   unfolding tallyOf
-  tally-corrected n = count-le (λ i. isCorrected (outcomeOf p t (w i))) 0 n
+  tally-corrected n = count-le (λ i. isCorrected (o i)) 0 n
 
-  tally-uncorrectable : (n : ℕ) → tallyOf p t w n .uncorrectable ≤ n
+  tally-uncorrectable : (n : ℕ) → tallyOf o n .uncorrectable ≤ n
   unfolding tallyOf
-  tally-uncorrectable n = count-le (λ i. isUncorrectable (outcomeOf p t (w i))) 0 n
+  tally-uncorrectable n = count-le (λ i. isUncorrectable (o i)) 0 n
 
-  pub tally-small : (n : ℕ) (m : Tally) → m ≡ tallyOf p t w n → n < rowCount → (m .corrected < rowCount) × (m .uncorrectable < rowCount)
+  pub tally-small : (n : ℕ) (m : Tally) → m ≡ tallyOf o n → n < rowCount → (m .corrected < rowCount) × (m .uncorrectable < rowCount)
   tally-small n m e h =
       (omega (arith, ap (λ (x : Tally). x .corrected) e, tally-corrected n), omega (arith, ap (λ (x : Tally). x .uncorrectable) e, tally-uncorrectable n))
 
-  step : (n : ℕ) → counted (tallyOf p t w n) (outcomeOf p t (w n)) ≡ tallyOf p t w (n + 1)
+  step : (n : ℕ) → counted (tallyOf o n) (o n) ≡ tallyOf o (n + 1)
   unfolding tallyOf
-  step n =
-      ap₂ both (sym (count-snoc (λ i. isCorrected (outcomeOf p t (w i))) n))
-      (sym (count-snoc (λ i. isUncorrectable (outcomeOf p t (w i))) n))
+  step n = ap₂ both (sym (count-snoc (λ i. isCorrected (o i)) n)) (sym (count-snoc (λ i. isUncorrectable (o i)) n))
 
-  -- the word n, of which o became
-  pub tally-more : (n : ℕ) (m : Tally) (o : Outcome) → m ≡ tallyOf p t w n → o ≡ outcomeOf p t (w n) → counted m o ≡ tallyOf p t w (n + 1)
-  tally-more n m o d e = ap₂ counted d e ∙ step n
+  -- the word n, of which r became
+  pub tally-more : (n : ℕ) (m : Tally) (r : Outcome) → m ≡ tallyOf o n → r ≡ o n → counted m r ≡ tallyOf o (n + 1)
+  tally-more n m r d e = ap₂ counted d e ∙ step n

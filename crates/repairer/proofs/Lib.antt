@@ -3,4 +3,5 @@ pub mod ColumnLaws
 pub mod Counting
 pub mod FrameLaws
 pub mod Numbers
+pub mod Unmarked
 pub mod Answers

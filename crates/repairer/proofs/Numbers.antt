@@ -1,7 +1,7 @@
--- Document 01's number of the block repairer's answer, and the frame that it carries; and firstFailing from outside its recursion.
+-- The number of the block repairer's answer, and the frame that it carries; and firstFailing from outside its recursion.
 -- Assumes nothing.
 use mathlib.Core.Path.{_≡_, refl, sym, ap, _∙_}
-use mathlib.Core.Bool.{Bool, true, false, cond}
+use mathlib.Core.Bool.{Bool, true, false, cond, _&&_}
 use mathlib.Core.List.{List}
 use mathlib.Core.Logic.{_≢_, dite}
 use Prim.Native.Nat.{ℕ, zero, suc, _+_, _<_, _≤_}
@@ -9,12 +9,12 @@ use native.Mathlib.Decide.{ℕ-discrete}
 use native.Mathlib.Omega.{arith}
 use borrow.Author.Tests.{lt-ltb, eqb-true, eqb-false}
 use lib.Dec.{eqb, ltb}
-use Rattle.dataframe.specs.Checks.{numberOf}
+use Rattle.dataframe.specs.Checks.{infoOf, numberOf, iedPasses, idPasses, edcPasses, frameRefusal}
 use Rattle.layout.specs.Rows.{frameOf}
 use Rattle.repairer.specs.Repair.{repaired, talliesOf}
-use Rattle.repairer.specs.Answer.{frameFault, judged, lengthsFit, repairAnswer, noFrame, firstFailing, refusedFrame, repairRefusal, repairNumber, repairFrame}
+use Rattle.repairer.specs.Answer.{frameFault, judged, lengthsFit, marksFit, repairs, repairAnswer, noFrame, firstFailing, refusedFrame, repairRefusal, repairNumber, repairFrame}
 use Rattle.repairer.specs.declared.Repaired.{Repaired}
-use Rattle.repairer.specs.declared.Repaired.the-variants.{Block, FrameRefused, LengthRefused}
+use Rattle.repairer.specs.declared.Repaired.the-variants.{Block, FrameRefused, ErasureRefused, LengthRefused}
 
 -- ---- the first frame that fails: it fails, and the frames before it pass
 
@@ -73,25 +73,40 @@ module _ (ys : List ℕ) (a : Repaired) where
       go true h = h
       go false h = sym (ap (λ (t : Bool). cond t (frameFault ys k) 0) (lt-ltb k 16 (omega (arith, e))))
 
-module _ (xs : List ℕ) (n : ℕ) where
+module _ (xs ms : List ℕ) (n : ℕ) where
   abbrev passed : Repaired
-  passed = Block (numberOf (frameOf (repaired xs) 0)) (talliesOf xs)
+  passed = Block (numberOf (frameOf (repaired xs ms) 0)) (talliesOf xs ms)
 
-  pub repair-frame : repairFrame (repairAnswer xs n) ≡ refusedFrame xs n
-  unfolding repairAnswer refusedFrame
-  repair-frame = go (lengthsFit xs n)
-    where
-      go : (b : Bool) → repairFrame (cond b (judged (repaired xs) 0 16 passed) LengthRefused) ≡ cond b (firstFailing (repaired xs) 0 16) noFrame
-      go true = judged-frame (repaired xs) passed refl 0 16 refl
-      go false = refl
-
-  pub repair-number : repairNumber (repairAnswer xs n) ≡ repairRefusal xs n
-  unfolding repairAnswer repairRefusal refusedFrame
-  repair-number = go (lengthsFit xs n)
+  pub repair-frame : repairFrame (repairAnswer xs ms n) ≡ refusedFrame xs ms n
+  unfolding repairAnswer refusedFrame repairs
+  repair-frame = go (lengthsFit xs ms n) (marksFit ms)
     where
       go :
-          (b : Bool)
-          → repairNumber (cond b (judged (repaired xs) 0 16 passed) LengthRefused)
-          ≡ cond b (faultAt (repaired xs) (cond b (firstFailing (repaired xs) 0 16) noFrame)) 1
-      go true = judged-number (repaired xs) passed refl 0 16 refl
-      go false = refl
+          (b c : Bool)
+          → repairFrame (cond b (cond c (judged (repaired xs ms) 0 16 passed) ErasureRefused) LengthRefused) ≡ cond (b && c) (firstFailing (repaired xs ms) 0 16) noFrame
+      go true true = judged-frame (repaired xs ms) passed refl 0 16 refl
+      go true false = refl
+      go false c = refl
+
+  pub repair-number : repairNumber (repairAnswer xs ms n) ≡ repairRefusal xs ms n
+  unfolding repairAnswer repairRefusal refusedFrame repairs
+  repair-number = go (lengthsFit xs ms n) (marksFit ms)
+    where
+      go :
+          (b c : Bool)
+          → repairNumber (cond b (cond c (judged (repaired xs ms) 0 16 passed) ErasureRefused) LengthRefused)
+          ≡ cond b (cond c (faultAt (repaired xs ms) (cond (b && c) (firstFailing (repaired xs ms) 0 16) noFrame)) 11) 1
+      go true true = judged-number (repaired xs ms) passed refl 0 16 refl
+      go true false = refl
+      go false c = refl
+
+-- a frame is refused with 4, 5 or 6
+pub fault-small : (ys : List ℕ) (k : ℕ) → frameFault ys k ≤ 6
+unfolding frameFault frameRefusal
+fault-small ys k = go (iedPasses (frameOf ys k)) (idPasses (numberOf (frameOf ys 0)) (infoOf (frameOf ys 0)) k (frameOf ys k)) (edcPasses (frameOf ys k))
+  where
+    go : (a b c : Bool) → cond a (cond b (cond c 0 6) 5) 4 ≤ 6
+    go true true true = omega arith
+    go true true false = omega arith
+    go true false c = omega arith
+    go false b c = omega arith

@@ -8,6 +8,8 @@ use Prim.{Unit}
 use lib.ListN.{getD, take}
 use Rattle.lists.specs.Count.{bit}
 use Rattle.codes.specs.Parity.{parity}
+use Rattle.codes.specs.Nearest.{nearest, outcomeOf}
+use Rattle.codes.specs.Erasures.{nearestErased, outcomeErased}
 use Rattle.codes.specs.declared.Outcome.{Outcome}
 use Rattle.multiples.specs.Inner.{high, low}
 use Rattle.layout.specs.Lengths.{dataRows, rowCount, rowSize, columnCount, innerSize, outerSize}
@@ -18,14 +20,10 @@ use Rattle.repairer.specs.declared.Tally.{Tally}
 use Rattle.repairer.specs.declared.words.Axis.{Axis}
 use Rattle.repairer.specs.declared.words.Axis.the-variants.{Rows, Columns}
 
--- the roots of a word along an axis, and how many of its bytes can be mended
+-- the roots of a word along an axis
 abbrev pub rootsOf : Axis → ℕ
 rootsOf Rows = innerSize
 rootsOf Columns = outerSize
-
-abbrev pub reachOf : Axis → ℕ
-reachOf Rows = 5
-reachOf Columns = 8
 
 -- how many words there are, and how many bytes each has
 abbrev pub countOf : Axis → ℕ
@@ -45,10 +43,19 @@ abbrev pub placeOf : Axis → ℕ → ℕ → ℕ
 placeOf Rows = rowPlace
 placeOf Columns = columnPlace
 
+-- what word k of the block xs becomes, where ms are the marks of its bytes, which only the rows go by; and what the repair says of it
+abbrev pub repairedWord : Axis → List ℕ → List ℕ → ℕ → List ℕ
+repairedWord Rows ms xs k = nearestErased innerSize (rowOf ms k) (rowOf xs k)
+repairedWord Columns ms xs k = nearest outerSize 8 (columnOf xs k)
+
+abbrev pub outcomeOfWord : Axis → List ℕ → List ℕ → ℕ → Outcome
+outcomeOfWord Rows ms xs k = outcomeErased innerSize (rowOf ms k) (rowOf xs k)
+outcomeOfWord Columns ms xs k = outcomeOf outerSize 8 (columnOf xs k)
+
 -- the block after the repair of its words
-abbrev pub repairedAlong : Axis → List ℕ → List ℕ
-repairedAlong Rows = rowsRepaired
-repairedAlong Columns = columnsRepaired
+abbrev pub repairedAlong : Axis → List ℕ → List ℕ → List ℕ
+repairedAlong Rows ms xs = rowsRepaired xs ms
+repairedAlong Columns ms xs = columnsRepaired xs
 
 -- register j holds what the first 192 bytes of column j leave
 pub record ColumnDivided (xs regs : List ℕ) (j : ℕ) : Type 0 where

@@ -3,12 +3,11 @@ ghost use mathlib.Core.Path.{_≡_};
 ghost use Prim.Native.Nat.{ℕ, _<_};
 ghost use lib.ListN.{length};
 ghost use Rattle.field.specs.Inner.{LogTable};
-ghost use Rattle.codes.specs.Nearest.{nearest, outcomeOf};
 ghost use Rattle.multiples.specs.Inner.{multiples};
 ghost use Rattle.bytes.specs.Inner.{Stored};
 ghost use Rattle.layout.specs.Lengths.{blockSize};
 ghost use Rattle.repairer.specs.Repair.{tallyOf};
-ghost use Rattle.repairer.specs.Inner.{rootsOf, reachOf, countOf, sizeOf, wordOf, placeOf, repairedAlong, Divided};
+ghost use Rattle.repairer.specs.Inner.{rootsOf, countOf, sizeOf, placeOf, repairedWord, outcomeOfWord, repairedAlong, Divided};
 use crate::Tally;
 use codes::Outcome;
 use layout::COLUMN_COUNT;
@@ -47,37 +46,42 @@ fn repair_word(
     logs: &[u8; 768],
     table: &[u64; 512],
     registers: &[u64; 344],
+    erasures: &[u8],
     k: usize,
     block: &mut [u8],
 ) -> Outcome
     requires { ⌜ LogTable (now logs)
         × (now table ≡ multiples (rootsOf axis))
+        × (length (now erasures) ≡ blockSize)
         × (length (now block) ≡ blockSize)
         × (k < countOf axis)
         × Divided axis (now block) (now registers) k ⌝ }
-    ensures { λ r. ⌜ r ≡ outcomeOf (rootsOf axis) (reachOf axis) (wordOf axis (now (block .entry)) k) ⌝ }
+    ensures { λ r. ⌜ r ≡ outcomeOfWord axis (now (erasures .entry)) (now (block .entry)) k ⌝ }
     ensures { λ r. ⌜ Stored (placeOf axis k)
-        (nearest (rootsOf axis) (reachOf axis) (wordOf axis (now (block .entry)) k)) (now (block .entry))
+        (repairedWord axis (now (erasures .entry)) (now (block .entry)) k) (now (block .entry))
         (now (block .exit)) (sizeOf axis) ⌝ }
 {
     match axis {
-        Axis::Rows => crate::rows::repair_row(logs, table, k, block),
+        Axis::Rows => crate::rows::repair_row(logs, table, erasures, k, block),
         Axis::Columns => crate::columns::repair_column(logs, table, registers, k, block),
     }
 }
 
-// All words, one after the other, and the tally.
+// All words, one after the other, and the tally. There is a mark for each byte of the block; only the rows go by them.
 pub(crate) fn repair_words(
     axis: Axis,
     logs: &[u8; 768],
     table: &[u64; 512],
+    erasures: &[u8],
     block: &mut [u8],
 ) -> Tally
     requires { ⌜ LogTable (now logs)
         × (now table ≡ multiples (rootsOf axis))
+        × (length (now erasures) ≡ blockSize)
         × (length (now block) ≡ blockSize) ⌝ }
-    ensures { λ r. ⌜ r ≡ tallyOf (rootsOf axis) (reachOf axis) (wordOf axis (now (block .entry))) (countOf axis) ⌝ }
-    ensures { λ r. ⌜ now (block .exit) ≡ repairedAlong axis (now (block .entry)) ⌝ }
+    ensures { λ r. ⌜ r
+        ≡ tallyOf (outcomeOfWord axis (now (erasures .entry)) (now (block .entry))) (countOf axis) ⌝ }
+    ensures { λ r. ⌜ now (block .exit) ≡ repairedAlong axis (now (erasures .entry)) (now (block .entry)) ⌝ }
 {
     let registers = registers_of(axis, table, block);
     let count = word_count(axis);
@@ -87,7 +91,7 @@ pub(crate) fn repair_words(
     };
     let mut k: usize = 0;
     while k < count {
-        let outcome = repair_word(axis, logs, table, &registers, k, block);
+        let outcome = repair_word(axis, logs, table, &registers, erasures, k, block);
         tally = crate::count_word(tally, outcome);
         k += 1;
     }

@@ -29,10 +29,11 @@ fn main_room() -> [u8; MAIN_SIZE]
 fn main() {
     let mut stream = stream_room();
     let mut block = block_room();
+    let mut erasures = block_room();
     let mut main = main_room();
     let mut text = [0u8; 128];
     let n = io::read_full(STDIN_FILENO, &mut stream);
-    let r = blockreader::read_block(&stream[..n], &mut block, &mut main);
+    let r = blockreader::read_block(&stream[..n], &mut block, &mut erasures, &mut main);
     let k = sheetline::sheet_line(r, &mut text);
     io::write_all(STDOUT_FILENO, &text[..k]);
 }

@@ -7,7 +7,7 @@ use lib.Dec.{ltb}
 use Rattle.repairer.specs.declared.Tally.{Tally}
 use Rattle.repairer.specs.declared.Tallies.{Tallies}
 use Rattle.blockreader.specs.declared.BlockRead.{BlockRead}
-use Rattle.blockreader.specs.declared.BlockRead.the-variants.{Block, FrameRefused, LengthRefused}
+use Rattle.blockreader.specs.declared.BlockRead.the-variants.{Block, FrameRefused, ErasureRefused, LengthRefused}
 
 -- a number in decimal without zeros in front: its last k digits, where it has more
 unfoldable pub lastDigits : ℕ → ℕ → List ℕ
@@ -80,4 +80,5 @@ sumsText unknown sync = (unknownText ++ decimal unknown) ++ (syncText ++ decimal
 unfoldable pub sheetLine : BlockRead → List ℕ
 sheetLine (Block first t unknown sync) = blockText ++ hexSix first ++ talliesText t ++ sumsText unknown sync
 sheetLine (FrameRefused number frame) = (refusedText ++ decimal number) ++ (frameText ++ decimal frame) ++ newline
+sheetLine ErasureRefused = refusedText ++ decimal 11 ++ newline
 sheetLine LengthRefused = refusedText ++ decimal 1 ++ newline

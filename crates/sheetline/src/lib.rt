@@ -92,6 +92,7 @@ pub fn sheet_line(answer: BlockRead, out: &mut [u8; 128]) -> usize
             sync,
         } => block_line(out, first, tallies, unknown, sync),
         BlockRead::FrameRefused { number, frame } => frame_line(out, number, frame),
+        BlockRead::ErasureRefused => numbers::put_text(out, 0, b"refused 11\n"),
         BlockRead::LengthRefused => numbers::put_text(out, 0, b"refused 1\n"),
     }
 }

@@ -11,7 +11,7 @@ use lib.ListN.{length}
 use Rattle.lists.specs.Bytes.{Bytes}
 use Rattle.layout.specs.Lengths.{streamSize, closingSize}
 use Rattle.layout.specs.Sectors.{blockPart, runSize}
-use Rattle.channel.specs.Block.{permittedRun, runStream, permittedStream, heavyRows}
+use Rattle.channel.specs.Block.{permittedRun, runStream, permittedStream, heavyRows, overloadedRows}
 use Rattle.eccblock.specs.Block.{block}
 use Rattle.eccblock.specs.Encode.{Accepted}
 use Rattle.eccblock.specs.Run.{BlockInput, AcceptedRun, runBlocks}
@@ -35,6 +35,9 @@ pub record BlockBack (i : BlockInput) (ys : List ℕ) (k n : ℕ) : Type 0 where
   -- whatever is read in place of the run reads to the same, while at most 8 of the block's rows hold more than 5 touched bytes
   pub scratched : (xs : List ℕ) → length xs ≡ runSize n → Bytes xs → heavyRows (blockPart ys k) (blockPart xs k) ≤ 8
       → HandedOut (i .main) (i .first) (blockPart xs k)
+  -- and while at most 8 of them have 2e + f over 10
+  pub scratched-farther : (xs : List ℕ) → length xs ≡ runSize n → Bytes xs → overloadedRows (blockPart ys k) (blockPart xs k) ≤ 8
+      → HandedOut (i .main) (i .first) (blockPart xs k)
 
 -- the stream ys that the formatter made of a run
 pub record RunBack (is : List BlockInput) (ys : List ℕ) : Type 0 where
@@ -54,7 +57,8 @@ permitted-back is ok cs p = record {
     block-back : (before : List BlockInput) (i : BlockInput) (after : List BlockInput) → AcceptedRun None (before ++ i ∷ after)
         → T (permittedRun (runBlocks (before ++ i ∷ after)) cs)
         → BlockBack i (runStream (runBlocks (before ++ i ∷ after)) cs) (length before) (length (before ++ i ∷ after))
-    block-back before i after ok p = record { whole = run-undamaged before i after ok cs p; scratched = demand3 .back before i after ok cs p }
+    block-back before i after ok p =
+        record { whole = run-undamaged before i after ok cs p; scratched = demand3 .back before i after ok cs p; scratched-farther = demand3 .farther before i after ok cs p }
 
 -- A RUN FORMATTED AND READ BACK: the blocks of an accepted run and closing are not refused, whatever the buffers held before, and what they hold then is read back
 pub run-back :
@@ -71,6 +75,7 @@ pub record Back (main : List ℕ) (first : ℕ) (ys : List ℕ) : Type 0 where
   pub zero-runs : ZeroRunsFit ys
   pub whole : Undamaged main first ys
   pub scratched : (xs : List ℕ) → length xs ≡ streamSize → Bytes xs → heavyRows ys xs ≤ 8 → HandedOut main first xs
+  pub scratched-farther : (xs : List ℕ) → length xs ≡ streamSize → Bytes xs → overloadedRows ys xs ≤ 8 → HandedOut main first xs
 
 module _ (main : List ℕ) (first info : ℕ) (ok : Accepted None main first info) where
   abbrev made : List ℕ
@@ -91,6 +96,7 @@ module _ (main : List ℕ) (first info : ℕ) (ok : Accepted None main first inf
     zero-runs = demand3-block .zero-runs made choices (block-length main first info ok) (block-bytes main first info ok) choices-permitted;
     whole = block-undamaged main first info ok choices choices-permitted;
     scratched = demand3-block .back main first info ok choices choices-permitted;
+    scratched-farther = demand3-block .farther main first info ok choices choices-permitted;
   }
 
   -- FORMATTED AND READ BACK: an accepted block is not refused, whatever the stream buffer held before, and what it holds then is read back

@@ -151,10 +151,14 @@ fn row_case(fd: i32) {
     io::read_full(fd, &mut sent);
     io::read_full(fd, &mut bytes);
     io::read_full(fd, &mut due);
-    let q = reedsolomon::correct_row(Row {
-        bytes,
-        outcome: Outcome::Clean,
-    });
+    let unmarked = [0u8; ROW_SIZE];
+    let q = reedsolomon::correct_row(
+        &unmarked,
+        Row {
+            bytes,
+            outcome: Outcome::Clean,
+        },
+    );
     let mended = q.bytes;
     say(b"trial 13: ", compare::differing(&sent, &bytes));
     let outcome = q.outcome;

@@ -15,6 +15,9 @@ enum-known-r-2 c = search needs
 enum-told : tie.Need-enum-told
 enum-told c = search needs
 
+enum-told-2 : tie.Need-enum-told-2
+enum-told-2 c = search needs
+
 returns : tie.Need-returns
 returns c =
     let s = c .before .before .before in
@@ -28,6 +31,9 @@ returns-2 c =
 returns-3 : tie.Need-returns-3
 returns-3 c = search needs
 
+returns-4 : tie.Need-returns-4
+returns-4 c = search needs
+
 pub answer-of-spec : {M : Type 1} → statement M
 answer-of-spec =
-    tie.close (tie.spec enum-known-r enum-known-r-2 enum-told returns returns-2 returns-3)
+    tie.close (tie.spec enum-known-r enum-known-r-2 enum-told enum-told-2 returns returns-2 returns-3 returns-4)

@@ -28,6 +28,15 @@ slice-aggregate-put-text c = search needs
 put-text-requires : tie.Need-put-text-requires
 put-text-requires c κs = search needs
 
+enum-told-2 : tie.Need-enum-told-2
+enum-told-2 c = search needs
+
+slice-aggregate-put-text-2 : tie.Need-slice-aggregate-put-text-2
+slice-aggregate-put-text-2 c = search needs
+
+put-text-requires-2 : tie.Need-put-text-requires-2
+put-text-requires-2 c κs = search needs
+
 returns : tie.Need-returns
 returns c =
     let e = c .before .before .before .answer .given .1 in
@@ -44,6 +53,12 @@ returns-3 c =
     let e = c .before .before .before .enum-told .given .1 in
     whole (named (c .put-text .ensures) (sym (ap sheetLine e))) (omega arith)
 
+returns-4 : tie.Need-returns-4
+unfolding sheetLine lastDigits
+returns-4 c =
+    let e = c .before .before .before .enum-told2 .given .1 in
+    whole (named (c .put-text2 .ensures) (sym (ap sheetLine e))) (omega arith)
+
 pub sheet-line-spec : {M : Type 1} → statement M
 sheet-line-spec =
     tie.close
@@ -55,6 +70,10 @@ sheet-line-spec =
     enum-told
     slice-aggregate-put-text
     put-text-requires
+    enum-told-2
+    slice-aggregate-put-text-2
+    put-text-requires-2
     returns
     returns-2
-    returns-3)
+    returns-3
+    returns-4)

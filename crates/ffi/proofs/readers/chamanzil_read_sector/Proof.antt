@@ -1,7 +1,7 @@
 -- `readers::chamanzil_read_sector` meets its contract. Assumes nothing.
 use mathlib.Core.Path.{ap, _∙_}
 use lib.ListN.{length}
-use Rattle.reader.specs.Sector.{sectorAnswer, sectorAfter, sectorReadRefusal}
+use Rattle.reader.specs.Sector.{sectorAnswer, sectorAfter, erasuresAfter, sectorReadRefusal}
 use Rattle.reader.specs.declared.SectorRead.{SectorRead}
 use Rattle.ffi.specs.Readers.{sectorReportSize, sectorReport}
 use Rattle.ffi.proofs.Reports.{number-refused, left-as-was, number-is, filled}
@@ -11,14 +11,19 @@ use Rattle.ffi.proofs.readers.chamanzil_read_sector.Tie as tie
 
 returns : tie.Need-returns
 returns c =
-    let a = c .before .before .before .before .args in
+    let a = c .before .before .before .before .before .args in
     let xs = a .stream .now in
+    let n = length (a .out .now) in
+    let m = length (a .erasures .now) in
     let q = a .report .now in
     let h = c .if1 .taken in (
-      number-refused sectorReportSize (sectorReadRefusal xs (length (a .out .now))) q h,
+      number-refused sectorReportSize (sectorReadRefusal xs n m) q h,
       (
-        left-as-was sectorReportSize q (sectorAfter xs (a .out .now)) (a .out .now) h,
-        left-as-was sectorReportSize q (sectorReport (sectorAnswer xs (length (a .out .now))) q) q h,
+        left-as-was sectorReportSize q (sectorAfter xs (a .out .now) m) (a .out .now) h,
+        (
+          left-as-was sectorReportSize q (erasuresAfter xs n (a .erasures .now)) (a .erasures .now) h,
+          left-as-was sectorReportSize q (sectorReport (sectorAnswer xs n m) q) q h,
+        ),
       ),
     )
 
@@ -40,21 +45,29 @@ same-length c = search needs
 same-length-2 : tie.Need-same-length-2
 same-length-2 c = search needs
 
+same-length-3 : tie.Need-same-length-3
+same-length-3 c = search needs
+
 returns-2 : tie.Need-returns-2
 returns-2 c =
     let laid = c .before .before .before in
-    let read = laid .before .before .before .before in
-    let fit = read .before .before in
-    let a = fit .before .before .before .before .args in
+    let read = laid .before .before .before .before .before .before in
+    let fit = read .before .before .before in
+    let a = fit .before .before .before .before .before .args in
     let xs = a .stream .now in
+    let n = length (a .out .now) in
+    let m = length (a .erasures .now) in
     let q = a .report .now in
     let l = fit .if1 .left in
     let e = read .read-sector .ensures in
     let told = laid .lay-sector .ensures ∙ ap (λ (r : SectorRead). sectorReport r q) (e .0) in (
-      number-is sectorReportSize (sectorReadRefusal xs (length (a .out .now))) _ q l (c .sector-read-number .ensures ∙ e .1 .0),
+      number-is sectorReportSize (sectorReadRefusal xs n m) _ q l (c .sector-read-number .ensures ∙ e .1 .0),
       (
-        filled sectorReportSize q (sectorAfter xs (a .out .now)) (a .out .now) _ l (e .1 .1),
-        filled sectorReportSize q (sectorReport (sectorAnswer xs (length (a .out .now))) q) q _ l told,
+        filled sectorReportSize q (sectorAfter xs (a .out .now) m) (a .out .now) _ l (e .1 .1 .0),
+        (
+          filled sectorReportSize q (erasuresAfter xs n (a .erasures .now)) (a .erasures .now) _ l (e .1 .1 .1),
+          filled sectorReportSize q (sectorReport (sectorAnswer xs n m) q) q _ l told,
+        ),
       ),
     )
 
@@ -69,4 +82,5 @@ chamanzil-read-sector-spec =
     cast-result
     same-length
     same-length-2
+    same-length-3
     returns-2)

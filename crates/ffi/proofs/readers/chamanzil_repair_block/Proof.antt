@@ -11,17 +11,18 @@ use Rattle.ffi.proofs.readers.chamanzil_repair_block.Tie as tie
 
 returns : tie.Need-returns
 returns c =
-    let a = c .before .before .before .before .args in
+    let a = c .before .before .before .before .before .args in
     let xs = a .block .now in
+    let ms = a .erasures .now in
     let n = length (a .main .now) in
     let q = a .report .now in
     let h = c .if1 .taken in (
-      number-refused repairReportSize (repairRefusal xs n) q h,
+      number-refused repairReportSize (repairRefusal xs ms n) q h,
       (
-        left-as-was repairReportSize q (blockAfter xs n) xs h,
+        left-as-was repairReportSize q (blockAfter xs ms n) xs h,
         (
-          left-as-was repairReportSize q (mainAfter xs (a .main .now)) (a .main .now) h,
-          left-as-was repairReportSize q (repairReport (repairAnswer xs n) q) q h,
+          left-as-was repairReportSize q (mainAfter xs ms (a .main .now)) (a .main .now) h,
+          left-as-was repairReportSize q (repairReport (repairAnswer xs ms n) q) q h,
         ),
       ),
     )
@@ -53,19 +54,20 @@ returns-2 c =
     let kept = laid .before .before .before in
     let repaired = kept .before .before .before in
     let fit = repaired .before .before .before in
-    let a = fit .before .before .before .before .args in
+    let a = fit .before .before .before .before .before .args in
     let xs = a .block .now in
+    let ms = a .erasures .now in
     let n = length (a .main .now) in
     let q = a .report .now in
     let l = fit .if1 .left in
     let e = repaired .repair-block .ensures in
     let told = laid .lay-repair .ensures ∙ ap (λ (r : Repaired). repairReport r q) (e .0) in (
-      number-is repairReportSize (repairRefusal xs n) _ q l (c .repair-number .ensures ∙ e .1 .0),
+      number-is repairReportSize (repairRefusal xs ms n) _ q l (c .repair-number .ensures ∙ e .1 .0),
       (
-        filled repairReportSize q (blockAfter xs n) xs _ l (e .1 .1 .1 .0),
+        filled repairReportSize q (blockAfter xs ms n) xs _ l (e .1 .1 .1 .0),
         (
-          filled repairReportSize q (mainAfter xs (a .main .now)) (a .main .now) _ l (e .1 .1 .1 .1),
-          filled repairReportSize q (repairReport (repairAnswer xs n) q) q _ l told,
+          filled repairReportSize q (mainAfter xs ms (a .main .now)) (a .main .now) _ l (e .1 .1 .1 .1),
+          filled repairReportSize q (repairReport (repairAnswer xs ms n) q) q _ l told,
         ),
       ),
     )

@@ -70,6 +70,9 @@ slice-write-report-16 c = let start = c .before .before .before in lt-length-set
 enum-told : tie.Need-enum-told
 enum-told c = search needs
 
+enum-told-2 : tie.Need-enum-told-2
+enum-told-2 c = search needs
+
 same-length : tie.Need-same-length
 same-length c = search needs
 
@@ -92,6 +95,9 @@ returns-2 c =
 
 returns-3 : tie.Need-returns-3
 returns-3 c = search needs
+
+returns-4 : tie.Need-returns-4
+returns-4 c = search needs
 
 pub lay-block-spec : {M : Type 1} → statement M
 lay-block-spec =
@@ -117,8 +123,10 @@ lay-block-spec =
     cast-report
     slice-write-report-16
     enum-told
+    enum-told-2
     same-length
     returns
     same-length-2
     returns-2
-    returns-3)
+    returns-3
+    returns-4)

@@ -58,6 +58,9 @@ slice-write-report-12 c = let start = c .before .before .before in lt-length-set
 enum-told : tie.Need-enum-told
 enum-told c = search needs
 
+enum-told-2 : tie.Need-enum-told-2
+enum-told-2 c = search needs
+
 same-length : tie.Need-same-length
 same-length c = search needs
 
@@ -81,6 +84,9 @@ returns-2 c =
 returns-3 : tie.Need-returns-3
 returns-3 c = search needs
 
+returns-4 : tie.Need-returns-4
+returns-4 c = search needs
+
 pub lay-repair-spec : {M : Type 1} → statement M
 lay-repair-spec =
     tie.close
@@ -101,8 +107,10 @@ lay-repair-spec =
     cast-report
     slice-write-report-12
     enum-told
+    enum-told-2
     same-length
     returns
     same-length-2
     returns-2
-    returns-3)
+    returns-3
+    returns-4)

@@ -1,50 +1,56 @@
 -- `search::search` meets its contract. Assumes nothing.
-use mathlib.Core.Path.{_≡_, refl, sym, ap, _∙_}
+use mathlib.Core.Path.{_≡_, refl, sym, ap, ap₂, _∙_}
+use mathlib.Core.Bool.{true, false, _||_}
 use mathlib.Core.List.{List, _++_, append-nil}
-use Prim.Native.Nat.{ℕ, _+_, _-_, _<_, _≤_}
-use lib.ListN.{length, take, length-set}
-use Rattle.field.specs.Field.{pow}
-use Rattle.lists.proofs.Bytes.{bytes-of}
-use Rattle.codes.specs.Inner.{polyAt, rootPlaces}
-use Rattle.codes.proofs.Roots.{search-room, search-hit, search-miss}
+use mathlib.Core.Logic.{⊎-elim}
+use Prim.Native.Nat.{ℕ, suc, _+_, _-_, _<_, _≤_}
 use native.Mathlib.Omega.{arith}
+use lib.ListN.{length, take, length-set}
+use Rattle.lists.proofs.Bytes.{bytes-of}
+use Rattle.codes.specs.Erasures.{isErased}
+use Rattle.codes.specs.Inner.{isRoot, isSuspect, placesWhere}
+use Rattle.codes.proofs.Roots.{suspects-few, search-room, search-hit, search-miss}
 use Rattle.reedsolomon.proofs.search.search.Statement.{statement}
 use Rattle.reedsolomon.proofs.search.search.Tie as tie
 use Rattle.reedsolomon.proofs.search.search.Reads as reads
 use Rattle.reedsolomon.proofs.search.search.Lts as lts
-use Rattle.field.proofs.alpha_power.Reads as alpha-power-reads
-use Rattle.reedsolomon.proofs.search.poly_value.Reads as poly-value-reads
+use Rattle.reedsolomon.proofs.search.is_suspect.Reads as is-suspect-reads
 
 abbrev Inv-loop : tie.InvT-loop
-Inv-loop logs locator n places₀ count₀ k₀ places count k = (count ≤ length places₀) × (length places ≡ length places₀) × (k ≤ n) × (take count places ++ rootPlaces locator k ≡ rootPlaces locator n)
+Inv-loop logs locator erasures places₀ count₀ i₀ k₀ places count i k =
+    (count ≤ length places₀) × (length places ≡ length places₀) × (i + k ≡ length erasures)
+    × (take count places ++ placesWhere (isSuspect erasures locator) k ≡ placesWhere (isSuspect erasures locator) (length erasures))
 
 abbrev μ-loop : tie.MeasureT-loop
-μ-loop logs locator n places₀ count₀ k₀ places count k = k
+μ-loop logs locator erasures places₀ count₀ i₀ k₀ places count i k = k
 
--- a root was found
+-- a place was found
 abbrev At : Type 0
-At =
-    lts.Then1 (alpha-power-reads.Asked, alpha-power-reads.Learnt, poly-value-reads.Asked, poly-value-reads.Learnt) reads.Pre reads.Post
-    Inv-loop μ-loop
+At = lts.Then1 (is-suspect-reads.Asked, is-suspect-reads.Learnt) reads.Pre reads.Post Inv-loop μ-loop
 
--- the polynomial
-abbrev poly : At → List ℕ
-poly c =
+hit : (c : At)
+    → let turn = c .before .before .before .before in
+    let a = turn .before .before .before .before .args in
+    isSuspect (a .erasures .now) (a .locator .now) (turn .loop .k - 1) ≡ true
+hit c =
     let turn = c .before .before .before .before in
-    turn .before .before .before .args .locator .now
-
-root : (c : At) → polyAt (poly c) (pow 2 (c .before .before .before .before .loop .k - 1)) ≡ 0
-root c =
-    ap (polyAt (poly c)) (sym (c .before .before .alpha-power .ensures)) ∙ sym (c .before .poly-value .ensures) ∙ c .if1 .taken
+    let a = turn .before .before .before .before .args in
+    let place : length (a .erasures .now) - suc (turn .loop .k - 1) ≡ turn .loop .i = omega arith in
+    ap (λ (i : ℕ). isErased (a .erasures .now) i || isRoot (a .locator .now) (turn .loop .k - 1)) place ∙ sym (c .before .is-suspect .ensures) ∙ c .if1 .taken
 
 room : (c : At) → c .before .before .before .before .loop .count < length (c .before .before .before .before .loop .places)
 room c =
     let turn = c .before .before .before .before in
-    let known = turn .before .before in
+    let known = turn .before .before .before in
     let s = known .before in
     let l = turn .loop in
-    search-room (s .args .locator .now) (l .places) (l .count) (l .k) (s .args .n) (omega arith) (omega arith) (l .inv .3) (root c)
-    (bytes-of (s .args .locator .now) (λ i h. omega (arith, known .shared-slice-known .given i))) (omega arith) (s .pre .2) (omega arith)
+    let q = s .args .locator .now in
+    let m = s .args .erasures .now in
+    search-room (isSuspect m q) (l .places) (l .count) (l .k) (length m) (omega arith) (omega (arith, l .inv .0, l .inv .1)) (l .inv .3) (hit c)
+    (omega (arith, suspects-few m q (bytes-of q (λ i h. omega (arith, known .shared-slice-known .given i))) (s .pre .1) (s .pre .2), s .pre .3, l .inv .1))
+
+cast-k : tie.Need-cast-k Inv-loop μ-loop
+cast-k c = let start = c .before .before .before in omega (arith, start .pre .1)
 
 loop-holds : tie.Need-loop-holds Inv-loop μ-loop
 loop-holds c = (omega arith, refl, omega arith, refl)
@@ -52,14 +58,11 @@ loop-holds c = (omega arith, refl, omega arith, refl)
 sub-k : tie.Need-sub-k Inv-loop μ-loop
 sub-k c = omega arith
 
-alpha-power-requires : tie.Need-alpha-power-requires Inv-loop μ-loop
-alpha-power-requires c κs = c .before .before .before .before .pre .0
+shared-slice-read-is-suspect : tie.Need-shared-slice-read-is-suspect Inv-loop μ-loop
+shared-slice-read-is-suspect c = omega arith
 
-poly-value-requires : tie.Need-poly-value-requires Inv-loop μ-loop
-poly-value-requires c κs =
-    let after-shared-slice-known = c .before .before .before .before in
-    let start = after-shared-slice-known .before in
-    start .pre .0
+is-suspect-requires : tie.Need-is-suspect-requires Inv-loop μ-loop
+is-suspect-requires c κs = c .before .before .before .before .before .before .pre .0
 
 slice-write-places : tie.Need-slice-write-places Inv-loop μ-loop
 slice-write-places c = room c
@@ -67,45 +70,53 @@ slice-write-places c = room c
 add-count : tie.Need-add-count Inv-loop μ-loop
 add-count c = omega (arith, room c)
 
+add-i : tie.Need-add-i Inv-loop μ-loop
+add-i c = omega arith
+
 loop-less : tie.Need-loop-less Inv-loop μ-loop
 loop-less c = omega arith
 
 loop-again : tie.Need-loop-again Inv-loop μ-loop
 loop-again c =
     let turn = c .before .before .before .before in
-    let s = turn .before .before .before in
-    let l = turn .loop in (
-      omega (arith, room c),
-      length-set (l .places) (l .count) (l .k - 1) ∙ l .inv .1,
+    let s = turn .before .before .before .before in
+    let l = turn .loop in
+    let q = s .args .locator .now in
+    let m = s .args .erasures .now in
+    let place : length m - suc (l .k - 1) ≡ l .i = omega arith in
+    ⊎-elim
+    (λ found.
+    let at : At = record { before = c .before; if1 = found .0 } in (
+      omega (arith, room at, l .inv .1, found .2),
+      ap length (found .1) ∙ length-set (l .places) (l .count) (l .k - 1) ∙ l .inv .1,
       omega arith,
-      search-hit (s .args .locator .now) (l .places) (l .count) (l .k) (s .args .n) (omega arith) (omega arith) (l .inv .3) (root c) (room c),
-    )
-
-loop-less-2 : tie.Need-loop-less-2 Inv-loop μ-loop
-loop-less-2 c = omega arith
-
-loop-again-2 : tie.Need-loop-again-2 Inv-loop μ-loop
-loop-again-2 c =
-    let turn = c .before .before .before .before in
-    let s = turn .before .before .before in
-    let l = turn .loop in (
+      ap₂ (λ (n : ℕ) (p : List ℕ). take n p ++ placesWhere (isSuspect m q) (l .k - 1)) (found .2) (found .1)
+          ∙ search-hit (isSuspect m q) (l .places) (l .count) (l .k) (length m) (omega arith) (omega (arith, l .inv .0, l .inv .1)) (l .inv .3) (hit at) (room at),
+    ))
+    (λ other.
+    let miss : isSuspect m q (l .k - 1) ≡ false =
+    ap (λ (i : ℕ). isErased m i || isRoot q (l .k - 1)) place ∙ sym (c .before .is-suspect .ensures) ∙ other .0 .left in (
+      omega (arith, l .inv .0, other .2),
+      ap length (other .1) ∙ l .inv .1,
       omega arith,
-      l .inv .1,
-      omega arith,
-      search-miss (s .args .locator .now) (l .places) (l .count) (l .k) (s .args .n) (omega arith) (omega arith) (l .inv .3)
-          (λ z. c .if1 .left (c .before .poly-value .ensures ∙ ap (polyAt (s .args .locator .now)) (c .before .before .alpha-power .ensures) ∙ z)),
-    )
+      ap₂ (λ (n : ℕ) (p : List ℕ). take n p ++ placesWhere (isSuspect m q) (l .k - 1)) (other .2) (other .1)
+          ∙ search-miss (isSuspect m q) (l .places) (l .count) (l .k) (length m) (omega arith) (omega (arith, l .inv .0, l .inv .1)) (l .inv .3) miss,
+    ))
+    (c .if1 .came)
 
 same-length : tie.Need-same-length Inv-loop μ-loop
 same-length c = c .before .loop .inv .1
 
 returns : tie.Need-returns Inv-loop μ-loop
-unfolding rootPlaces
+unfolding placesWhere
 returns c =
-    let s = c .before .before .before .before in
+    let s = c .before .before .before .before .before in
     let l = c .before .loop in
-    let e : l .k ≡ 0 = omega arith in
-    (omega arith, sym (append-nil (take (l .count) (l .places))) ∙ ap (λ (k : ℕ). take (l .count) (l .places) ++ rootPlaces (s .args .locator .now) k) (sym e) ∙ l .inv .3)
+    let e : l .k ≡ 0 = omega arith in (
+      l .inv .0,
+      sym (append-nil (take (l .count) (l .places)))
+          ∙ ap (λ (k : ℕ). take (l .count) (l .places) ++ placesWhere (isSuspect (s .args .erasures .now) (s .args .locator .now)) k) (sym e) ∙ l .inv .3,
+    )
 
 pub search-spec : {M : Type 1} → statement M
 search-spec =
@@ -113,15 +124,15 @@ search-spec =
     (tie.spec
     Inv-loop
     μ-loop
+    cast-k
     loop-holds
     sub-k
-    alpha-power-requires
-    poly-value-requires
+    shared-slice-read-is-suspect
+    is-suspect-requires
     slice-write-places
     add-count
+    add-i
     loop-less
     loop-again
-    loop-less-2
-    loop-again-2
     same-length
     returns)

@@ -1,6 +1,6 @@
 -- `columns::repair_column` meets its contract: its sums decide; a column that is no code column is taken out, corrected and stored back. Assumes nothing.
 use mathlib.Core.Path.{sym, ap, _∙_}
-use mathlib.Core.List.{List}
+use mathlib.Core.List.{List, []}
 use Prim.Native.Nat.{ℕ, _<_}
 use native.Mathlib.Omega.{arith}
 use lib.ListN.{length, getD}
@@ -9,7 +9,7 @@ use Rattle.lists.specs.Fill.{tabulate}
 use Rattle.codes.specs.Word.{syndrome}
 use Rattle.codes.specs.Nearest.{nearest, outcomeOf}
 use Rattle.repairer.specs.declared.words.Axis.the-variants.{Columns}
-use Rattle.repairer.proofs.Along.{syndromes-zero, nearest-size}
+use Rattle.repairer.proofs.Along.{column-clean, repaired-size}
 use Rattle.repairer.proofs.ColumnLaws.{column-stored}
 use Rattle.repairer.proofs.columns.repair_column.Statement.{statement}
 use Rattle.repairer.proofs.columns.repair_column.Tie as tie
@@ -33,7 +33,7 @@ returns c =
     let start = known .before in
     let xs = start .args .block .now in
     let small : (i : ℕ) → getD xs i 0 < 256 = λ i. omega (arith, known .slice-known .given i) in
-    syndromes-zero Columns xs (start .args .j) (start .pre .2) small (start .pre .3) _ (summed .column-syndromes .ensures) _ (c .before .all-zero .ensures)
+    column-clean [] xs (start .args .j) (start .pre .2) small _ (summed .column-syndromes .ensures) _ (c .before .all-zero .ensures)
     (c .if1 .taken)
 
 column-at-requires : tie.Need-column-at-requires
@@ -60,7 +60,7 @@ store-column-requires c κs =
     let xs = start .args .block .now in
     let small : (i : ℕ) → getD xs i 0 < 256 = λ i. omega (arith, known .slice-known .given i) in
     let near = corrected .correct-column-from .ensures .0 ∙ ap (nearest 16 8) (taken .column-at .ensures) in
-    let l = ap length near ∙ nearest-size Columns xs (start .args .j) (start .pre .2) small (start .pre .3) in
+    let l = ap length near ∙ repaired-size Columns [] xs (start .args .j) (start .pre .2) small (start .pre .3) in
     (start .pre .2, omega (arith, l), start .pre .3)
 
 same-length-2 : tie.Need-same-length-2
@@ -80,7 +80,7 @@ returns-2 c =
     let r = corrected .correct-column-from .ensures in
     let w = taken .column-at .ensures in
     let near = r .0 ∙ ap (nearest 16 8) w in
-    let l = ap length near ∙ nearest-size Columns xs (start .args .j) (start .pre .2) small (start .pre .3) in
+    let l = ap length near ∙ repaired-size Columns [] xs (start .args .j) (start .pre .2) small (start .pre .3) in
     (r .1 ∙ ap (outcomeOf 16 8) w, column-stored (start .args .j) _ _ _ _ l near (stored .store-column .ensures))
 
 pub repair-column-spec : {M : Type 1} → statement M

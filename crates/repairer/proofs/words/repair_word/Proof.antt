@@ -16,12 +16,13 @@ enum-told c = search needs
 repair-row-requires : tie.Need-repair-row-requires
 repair-row-requires c κs =
     let told = c .before in
-    let start = told .before .before .before in
+    let start = told .before .before .before .before in
     let e = told .enum-told .given .1 in (
       start .pre .0,
       start .pre .1 ∙ ap (λ (a : Axis). multiples (rootsOf a)) e,
       start .pre .2,
-      subst (λ (a : Axis). start .args .k < countOf a) e (start .pre .3),
+      start .pre .3,
+      subst (λ (a : Axis). start .args .k < countOf a) e (start .pre .4),
     )
 
 enum-told-2 : tie.Need-enum-told-2
@@ -30,13 +31,13 @@ enum-told-2 c = search needs
 repair-column-requires : tie.Need-repair-column-requires
 repair-column-requires c κs =
     let told = c .before in
-    let start = told .before .before .before in
+    let start = told .before .before .before .before in
     let e = told .enum-told2 .given .1 in (
       start .pre .0,
       start .pre .1 ∙ ap (λ (a : Axis). multiples (rootsOf a)) e,
-      start .pre .2,
-      subst (λ (a : Axis). start .args .k < countOf a) e (start .pre .3),
-      subst (λ (a : Axis). Divided a (start .args .block .now) (start .args .registers .now) (start .args .k)) e (start .pre .4),
+      start .pre .3,
+      subst (λ (a : Axis). start .args .k < countOf a) e (start .pre .4),
+      subst (λ (a : Axis). Divided a (start .args .block .now) (start .args .registers .now) (start .args .k)) e (start .pre .5),
     )
 
 same-length : tie.Need-same-length
@@ -46,8 +47,8 @@ returns : tie.Need-returns
 returns c =
     let repaired = c .before .before in
     let told = repaired .before .before in
-    let start = told .before .before .before in
-    repaired-along (start .args .axis) Rows (told .enum-told .given .1) (start .args .block .now) (start .args .k) _ _ (repaired .repair-row .ensures)
+    let start = told .before .before .before .before in
+    repaired-along (start .args .axis) Rows (told .enum-told .given .1) (start .args .erasures .now) (start .args .block .now) (start .args .k) _ _ (repaired .repair-row .ensures)
 
 same-length-2 : tie.Need-same-length-2
 same-length-2 c = search needs
@@ -56,8 +57,8 @@ returns-2 : tie.Need-returns-2
 returns-2 c =
     let repaired = c .before .before in
     let told = repaired .before .before in
-    let start = told .before .before .before in
-    repaired-along (start .args .axis) Columns (told .enum-told2 .given .1) (start .args .block .now) (start .args .k) _ _
+    let start = told .before .before .before .before in
+    repaired-along (start .args .axis) Columns (told .enum-told2 .given .1) (start .args .erasures .now) (start .args .block .now) (start .args .k) _ _
     (repaired .repair-column .ensures)
 
 pub repair-word-spec : {M : Type 1} → statement M
