@@ -11,7 +11,7 @@ use native.Mathlib.Omega.{arith}
 use borrow.Author.Tests.{eq-eqb, ne-eqb}
 use lib.Dec.{eqb}
 use lib.ListN.{length, getD, take, drop, replicate, length-take, length-drop, length-replicate, List·getD-eq-default}
-use lib.Seq.{sets, length-sets, ext-getD, getD-take, getD-drop}
+use lib.Seq.{sets, length-sets, length-take-le, ext-getD, getD-take, getD-drop}
 use Rattle.lists.specs.Count.{bit}
 use Rattle.lists.proofs.Fill.{length-tabulate, getD-tabulate}
 use Rattle.lists.proofs.Count.{count-le, count-none, count-flip}
@@ -182,9 +182,29 @@ module _ (S : ℕ → ℕ) (t w k : ℕ) where
               ∙ ap (λ (x : ℕ). x + 1) (p .used);
         }
 
--- a candidate that satisfies all equations is a locator
-pub locates : (S : ℕ → ℕ) (w k : ℕ) (v : List ℕ) → 0 < w → Candidate S w k (w - 1) v → Locator S (w - 1) v
-locates S w k v l c = record { size = c .size ∙ omega arith; some = record { degree = k; lead = c .lead }; zeros = c .zeros }
+-- coefficients that are 0 add nothing to a key equation
+dot-none : (c : List ℕ) (S : ℕ → ℕ) (i : ℕ) → ((j : ℕ) → getD c j 0 ≡ 0) → dot c S i ≡ 0
+unfolding dot
+dot-none [] S i h = refl
+dot-none (c ∷ cs) S i h = ap₂ add (ap (λ (x : ℕ). mul x (S i)) (h 0) ∙ zero-mul (S i)) (dot-none cs S (suc i) (λ j. h (suc j))) ∙ add-self 0
+
+dot-take : (n : ℕ) (c : List ℕ) (S : ℕ → ℕ) (i : ℕ) → ((j : ℕ) → n ≤ j → getD c j 0 ≡ 0) → dot (take n c) S i ≡ dot c S i
+unfolding dot
+dot-take n [] S i h = ap (λ (x : List ℕ). dot x S i) (take-none n)
+  where
+    take-none : (n : ℕ) → take {A = ℕ} n [] ≡ []
+    take-none zero = refl
+    take-none (suc n) = refl
+dot-take zero (c ∷ cs) S i h = sym (dot-none (c ∷ cs) S i (λ j. h j (omega arith)))
+dot-take (suc n) (c ∷ cs) S i h = ap (add (mul c (S i))) (dot-take n cs S (suc i) (λ j l. h (suc j) (omega arith)))
+
+-- a candidate x^k + .. that satisfies all equations is a locator, as far as x^k
+pub locates : (S : ℕ → ℕ) (w k : ℕ) (v : List ℕ) → k < w → Candidate S w k (w - 1) v → Locator S (w - 1) (take (k + 1) v)
+locates S w k v l c = record {
+  size = omega (arith, length-take-le (k + 1) v (omega (arith, c .size, l)));
+  some = record { degree = k; lead = getD-take (k + 1) v k 0 (omega arith) ∙ c .lead };
+  zeros = λ i h. dot-take (k + 1) v S i (λ j m. c .high j (omega arith)) ∙ c .zeros i h;
+}
 
 -- ---- the steps as the code takes them
 

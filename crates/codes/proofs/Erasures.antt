@@ -17,7 +17,6 @@ use Rattle.lists.proofs.Test.{and-left, and-right, truth, truth-of}
 use Rattle.codes.specs.Word.{isCode}
 use Rattle.codes.specs.Nearest.{isNear, nearest, outcomeOf}
 use Rattle.codes.specs.Erasures.{isErased, erasureCount, errorCount, isWithin, nearestErased, outcomeErased}
-use Rattle.codes.specs.declared.Outcome.{Outcome}
 use Rattle.codes.specs.declared.Outcome.the-variants.{Clean, Corrected, Uncorrectable}
 use Rattle.codes.proofs.Words.{IsCode, code-of-test, test-of-code}
 use Rattle.codes.proofs.Nearest.{Chosen, chosen, kept, first-chosen, same-chosen, minimum-distance, nearest-length}

@@ -16,7 +16,7 @@ use Rattle.lists.specs.Bytes.{Bytes}
 use Rattle.lists.specs.Count.{bit, countFrom}
 use Rattle.lists.proofs.Count.{count-same, count-snoc, count-order}
 use Rattle.field.specs.Field.{add, mul, pow}
-use Rattle.field.proofs.Field.{add-self, add-zero, zero-add, add-swap, eq-of-add, add-lt, mul-add, mul-assoc, mul-zero, zero-mul, mul-one, mul-lt, zero-of-mul}
+use Rattle.field.proofs.Field.{add-self, zero-add, add-swap, eq-of-add, add-lt, mul-add, mul-assoc, mul-zero, zero-mul, mul-one, mul-lt, zero-of-mul}
 use Rattle.field.proofs.Powers.{alpha-lt, powers-differ}
 use Rattle.codes.specs.Word.{syndrome}
 use Rattle.codes.specs.Parity.{addWords}

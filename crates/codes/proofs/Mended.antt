@@ -263,7 +263,7 @@ module _ (S : ℕ → ℕ) (ks w : List ℕ) where
   mended-bytes = mend-bytes S ks (length ks) 0 w
 
 -- at most as many unmarked bytes differ as the polynomial has roots
-pub mended-errors : (S : ℕ → ℕ) (m q w : List ℕ) → length m ≡ length w → length w ≤ 255 → Bytes q → (t : ℕ) → length q ≡ t + 1 → NonZero q
+pub mended-errors : (S : ℕ → ℕ) (m q w : List ℕ) → length m ≡ length w → length w ≤ 255 → Bytes q → (t : ℕ) → length q ≤ t + 1 → NonZero q
     → errorCount m w (mended S (placesWhere (isSuspect m q) (length m)) w) ≤ t
 unfolding errorCount
 mended-errors S m q w sized short hq t size some =

@@ -13,7 +13,6 @@ use lib.ListN.{length}
 use Rattle.lists.specs.Bytes.{Bytes}
 use Rattle.lists.specs.Count.{bit, distance}
 use Rattle.lists.proofs.Test.{and-left, and-right, truth}
-use Rattle.lists.proofs.Count.{distance-self}
 use Rattle.field.specs.Field.{add}
 use Rattle.field.proofs.Field.{add-self, eq-of-add}
 use Rattle.codes.specs.Word.{isCode}
@@ -193,14 +192,6 @@ module _ (p t : ℕ) (w : List ℕ) (hw : Bytes w) where
   unfolding isNear
   near-test c n = rw (truth (isCode p c) (test-of-code p c (n .code)), le-leb (distance w c) t (n .close))
 
-  pub nearest-bytes : Bytes (nearest p t w)
-  unfolding nearest
-  nearest-bytes = go (first-chosen (isNear p t w) w)
-    where
-      go : {d : List ℕ} → Chosen (isNear p t w) w d → Bytes d
-      go (chosen k l h) = k
-      go (kept f) = hw
-
   pub nearest-length : length (nearest p t w) ≡ length w
   unfolding nearest
   nearest-length = go (first-chosen (isNear p t w) w)
@@ -224,10 +215,6 @@ module _ (p t : ℕ) (w : List ℕ) (hw : Bytes w) where
         go : {d : List ℕ} → Chosen (isNear p t w) w d → d ≡ c
         go (chosen {c = d} k l h) = near-unique d c (test-near d k l h) n
         go (kept f) = absurd (false≢true (sym (f c (n .bytes) (sym (n .len))) ∙ near-test c n))
-
-    -- a code word stays
-    pub nearest-code : IsCode p w → nearest p t w ≡ w
-    nearest-code h = nearest-near w (record { bytes = hw; len = refl; code = h; close = omega (arith, distance-self w) })
 
   pub outcome-clean : isCode p w ≡ true → outcomeOf p t w ≡ Clean
   unfolding outcomeOf

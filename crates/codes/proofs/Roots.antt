@@ -112,7 +112,7 @@ module _ (f : ℕ → Bool) where
   places-total (suc n) = go (f n) refl (places-total n)
     where
       go : (t : Bool) → f n ≡ t → length (placesWhere f n) ≡ countFrom f 0 n → length (cond t (n ∷ placesWhere f n) (placesWhere f n)) ≡ countFrom f 0 (suc n)
-      go true e ih = omega (arith, ap bit e, ap (countFrom f 0) (sym (add-one n)) , count-snoc f n)
+      go true e ih = omega (arith, ap bit e, ap (countFrom f 0) (sym (add-one n)), count-snoc f n)
       go false e ih = omega (arith, ap bit e, ap (countFrom f 0) (sym (add-one n)), count-snoc f n)
 
   -- each of them passes

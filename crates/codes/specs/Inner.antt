@@ -38,9 +38,9 @@ pub record NonZero (c : List ℕ) : Type 0 where
   pub degree : ℕ
   pub lead : getD c degree 0 ≡ 1
 
--- c satisfies the key equations 0 .. t-1 of the syndromes S, has t + 1 coefficients, and is not 0
+-- c satisfies the key equations 0 .. t-1 of the syndromes S, has at most t + 1 coefficients, and is not 0
 pub record Locator (S : ℕ → ℕ) (t : ℕ) (c : List ℕ) : Type 0 where
-  pub size : length c ≡ t + 1
+  pub size : length c ≤ t + 1
   pub some : NonZero c
   pub zeros : (i : ℕ) → i < t → dot c S i ≡ 0
 

@@ -3,7 +3,7 @@ ghost use mathlib.Core.Path.{_≡_};
 ghost use mathlib.Core.Bool.{_&&_};
 ghost use Rattle.field.specs.Field.{mul, pow};
 ghost use Rattle.codes.specs.Parity.{parity};
-ghost use Rattle.layout.specs.Lengths.{dataRows, rowCount, columnCount, rowSize, outerSize, innerSize};
+ghost use Rattle.layout.specs.Lengths.{dataRows, columnCount, outerSize, innerSize};
 ghost use Rattle.ffi.specs.Answers.{sized, doneOr1, heldAfter, outcomeNumber, columnRepairNumber, columnRepairBytes, rowRepairNumber, rowRepairBytes};
 use codes::Outcome;
 use layout::COLUMN_COUNT;

@@ -118,10 +118,14 @@ pub fn read_sector_with(
         × (now substitutes ≡ tableOf 1)
         × (now index ≡ wordIndex)
         × (now syncs ≡ syncTable) ⌝ }
-    ensures { λ r. ⌜ r ≡ sectorAnswer (now (stream .entry)) (length (now (out .entry))) (length (now (erasures .entry))) ⌝ }
-    ensures { λ r. ⌜ sectorReadNumber r ≡ sectorReadRefusal (now (stream .entry)) (length (now (out .entry))) (length (now (erasures .entry))) ⌝ }
-    ensures { λ r. ⌜ now (out .exit) ≡ sectorAfter (now (stream .entry)) (now (out .entry)) (length (now (erasures .entry))) ⌝ }
-    ensures { λ r. ⌜ now (erasures .exit) ≡ erasuresAfter (now (stream .entry)) (length (now (out .entry))) (now (erasures .entry)) ⌝ }
+    ensures { λ r. ⌜ r
+        ≡ sectorAnswer (now (stream .entry)) (length (now (out .entry))) (length (now (erasures .entry))) ⌝ }
+    ensures { λ r. ⌜ sectorReadNumber r
+        ≡ sectorReadRefusal (now (stream .entry)) (length (now (out .entry))) (length (now (erasures .entry))) ⌝ }
+    ensures { λ r. ⌜ now (out .exit)
+        ≡ sectorAfter (now (stream .entry)) (now (out .entry)) (length (now (erasures .entry))) ⌝ }
+    ensures { λ r. ⌜ now (erasures .exit)
+        ≡ erasuresAfter (now (stream .entry)) (length (now (out .entry))) (now (erasures .entry)) ⌝ }
 {
     if stream.len() != SECTOR_READ {
         return SectorRead::LengthRefused;
@@ -139,10 +143,14 @@ pub fn read_sector_with(
 
 // The sector reader.
 pub fn read_sector(stream: &[u8], out: &mut [u8], erasures: &mut [u8]) -> SectorRead
-    ensures { λ r. ⌜ r ≡ sectorAnswer (now (stream .entry)) (length (now (out .entry))) (length (now (erasures .entry))) ⌝ }
-    ensures { λ r. ⌜ sectorReadNumber r ≡ sectorReadRefusal (now (stream .entry)) (length (now (out .entry))) (length (now (erasures .entry))) ⌝ }
-    ensures { λ r. ⌜ now (out .exit) ≡ sectorAfter (now (stream .entry)) (now (out .entry)) (length (now (erasures .entry))) ⌝ }
-    ensures { λ r. ⌜ now (erasures .exit) ≡ erasuresAfter (now (stream .entry)) (length (now (out .entry))) (now (erasures .entry)) ⌝ }
+    ensures { λ r. ⌜ r
+        ≡ sectorAnswer (now (stream .entry)) (length (now (out .entry))) (length (now (erasures .entry))) ⌝ }
+    ensures { λ r. ⌜ sectorReadNumber r
+        ≡ sectorReadRefusal (now (stream .entry)) (length (now (out .entry))) (length (now (erasures .entry))) ⌝ }
+    ensures { λ r. ⌜ now (out .exit)
+        ≡ sectorAfter (now (stream .entry)) (now (out .entry)) (length (now (erasures .entry))) ⌝ }
+    ensures { λ r. ⌜ now (erasures .exit)
+        ≡ erasuresAfter (now (stream .entry)) (length (now (out .entry))) (now (erasures .entry)) ⌝ }
 {
     let words = annexg::main_table();
     let substitutes = annexg::sub_table();

@@ -1,7 +1,7 @@
 // The repair of a column of 208 bytes with 16 roots: the nearest code column within eight bytes
 // (document 01, 'Reading a word, and the repair').
 ghost use mathlib.Core.Path.{_≡_};
-ghost use Prim.Native.Nat.{_≤_};
+ghost use Prim.Native.Nat.{_+_, _≤_};
 ghost use lib.ListN.{length, take, replicate};
 ghost use Rattle.lists.specs.Fill.{tabulate};
 ghost use Rattle.field.specs.Inner.{LogTable};
@@ -35,14 +35,24 @@ fn column_syndromes(logs: &[u8; 768], table: &[u64; 512], bytes: [u8; ROW_COUNT]
     crate::syndromes::syndromes16(logs, left)
 }
 
-fn column_locator(logs: &[u8; 768], syndromes: [u8; 16]) -> [u8; 9]
+// A locator, lowest coefficient first, as far as its degree.
+struct ColumnLocator {
+    coefficients: [u8; 9],
+    degree: usize,
+}
+
+fn column_locator(logs: &[u8; 768], syndromes: [u8; 16]) -> ColumnLocator
     requires { ⌜ LogTable (now logs) ⌝ }
-    ensures { λ r. ⌜ Locator (at syndromes) 8 r ⌝ }
+    ensures { λ r. ⌜ r .degree ≤ 8 ⌝ }
+    ensures { λ r. ⌜ Locator (at syndromes) 8 (take (r .degree + 1) (r .coefficients)) ⌝ }
 {
     let mut pivots = [0u8; 72];
-    let mut locator = [0u8; 9];
-    crate::locate::locate(logs, &syndromes, &mut pivots, &mut locator);
-    locator
+    let mut coefficients = [0u8; 9];
+    let degree = crate::locate::locate(logs, &syndromes, &mut pivots, &mut coefficients);
+    ColumnLocator {
+        coefficients,
+        degree,
+    }
 }
 
 // No byte of a column is marked.
@@ -52,9 +62,11 @@ fn column_search(logs: &[u8; 768], syndromes: [u8; 16]) -> ColumnPlaces
     ensures { λ r. ⌜ Places (at syndromes) 8 (replicate rowCount 0) (take (r .count) (r .at)) ⌝ }
 {
     let locator = column_locator(logs, syndromes);
+    let coefficients = locator.coefficients;
+    let end = locator.degree + 1;
     let unmarked = [0u8; ROW_COUNT];
     let mut at = [0u8; 8];
-    let count = crate::search::search(logs, &locator, &unmarked, &mut at);
+    let count = crate::search::search(logs, &coefficients[..end], &unmarked, &mut at);
     ColumnPlaces { at, count }
 }
 

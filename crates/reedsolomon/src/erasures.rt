@@ -7,11 +7,12 @@ ghost use Rattle.field.specs.Inner.{LogTable};
 ghost use Rattle.codes.specs.Erasures.{erasureCount};
 ghost use Rattle.codes.specs.Inner.{at, erasedPlace, withoutMarked};
 
-// How many bytes are marked.
+// How many bytes are marked. Counted in a byte, so that the machine takes sixteen marks at a time.
 pub fn count_erasures(erasures: &[u8]) -> usize
+    requires { ⌜ length (now erasures) ≤ 255 ⌝ }
     ensures { λ r. ⌜ r ≡ erasureCount (now (erasures .entry)) (length (now (erasures .entry))) ⌝ }
 {
-    let mut count: usize = 0;
+    let mut count: u8 = 0;
     let mut i: usize = 0;
     while i < erasures.len() {
         if erasures[i] == 1 {
@@ -19,7 +20,7 @@ pub fn count_erasures(erasures: &[u8]) -> usize
         }
         i += 1;
     }
-    count
+    count as usize
 }
 
 // The errors at the marked places drop out of the syndromes, one after the other. Each takes the last of the syndromes along.

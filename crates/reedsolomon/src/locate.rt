@@ -3,7 +3,7 @@
 // pivot of the first equation it fails.
 ghost use mathlib.Core.Path.{_≡_};
 ghost use Prim.Native.Nat.{ℕ, _+_, _-_, _*_, _<_, _≤_};
-ghost use lib.ListN.{length, replicate};
+ghost use lib.ListN.{length, take, replicate};
 ghost use Rattle.field.specs.Inner.{LogTable};
 ghost use Rattle.codes.specs.Inner.{at, dot, mix, unit, Locator, Pivots, Candidate, Cleared};
 
@@ -114,22 +114,29 @@ fn clear_equations(
     true
 }
 
-// A locator for the syndromes. `pivots` is scratch, filled with zeros.
-pub(crate) fn locate(logs: &[u8; 768], syndromes: &[u8], pivots: &mut [u8], locator: &mut [u8])
+// A locator for the syndromes, and its degree: what stands in the buffer as far as there. `pivots` is scratch, filled with zeros.
+pub(crate) fn locate(
+    logs: &[u8; 768],
+    syndromes: &[u8],
+    pivots: &mut [u8],
+    locator: &mut [u8],
+) -> usize
     requires { ⌜ LogTable (now logs)
         × (0 < length (now locator))
         × (now pivots ≡ replicate ((length (now locator) - 1) * length (now locator)) 0)
         × (length (now locator) + length (now locator) ≤ length (now syndromes) + 2) ⌝ }
+    ensures { λ r. ⌜ r < length (now (locator .entry)) ⌝ }
     ensures { λ r. ⌜ Locator (at (now (syndromes .entry))) (length (now (locator .entry)) - 1)
-        (now (locator .exit)) ⌝ }
+        (take (r + 1) (now (locator .exit))) ⌝ }
 {
     let w = locator.len();
     let mut k: usize = 0;
     while k < w {
         set_unit(locator, k);
         if clear_equations(logs, syndromes, pivots, locator) {
-            return;
+            return k;
         }
         k += 1;
     }
+    0
 }

@@ -35,38 +35,38 @@ fn row_syndromes(logs: &[u8; 768], table: &[u64; 512], bytes: [u8; ROW_SIZE]) ->
     crate::syndromes::syndromes10(logs, left)
 }
 
+// A locator, lowest coefficient first, as far as its degree.
+struct RowLocator {
+    coefficients: [u8; 6],
+    degree: usize,
+}
+
 // A locator for the errors beside the marked bytes, of which there are at most half as many as syndromes are left.
-fn row_locator(
-    logs: &[u8; 768],
-    erasures: &[u8],
-    reach: usize,
-    syndromes: [u8; 10],
-) -> [u8; 6]
+fn row_locator(logs: &[u8; 768], erasures: &[u8], reach: usize, syndromes: [u8; 10]) -> RowLocator
     requires { ⌜ LogTable (now logs) × (length (now erasures) ≡ rowSize) × (reach ≤ 5) ⌝ }
+    ensures { λ r. ⌜ r .degree ≤ reach ⌝ }
     ensures { λ r. ⌜ Locator
         (withoutMarked (erasedPlace (now (erasures .entry))) (length (now (erasures .entry))) (at syndromes)) reach
-        (take (reach + 1) r) ⌝ }
+        (take (r .degree + 1) (r .coefficients)) ⌝ }
 {
     let mut rest = syndromes;
     crate::erasures::take_out_erased(logs, erasures, &mut rest);
     let mut pivots = [0u8; 30];
-    let mut locator = [0u8; 6];
+    let mut coefficients = [0u8; 6];
     let end = reach + 1;
-    crate::locate::locate(
+    let degree = crate::locate::locate(
         logs,
         &rest,
         &mut pivots[..reach * end],
-        &mut locator[..end],
+        &mut coefficients[..end],
     );
-    locator
+    RowLocator {
+        coefficients,
+        degree,
+    }
 }
 
-fn row_search(
-    logs: &[u8; 768],
-    erasures: &[u8],
-    reach: usize,
-    syndromes: [u8; 10],
-) -> RowPlaces
+fn row_search(logs: &[u8; 768], erasures: &[u8], reach: usize, syndromes: [u8; 10]) -> RowPlaces
     requires { ⌜ LogTable (now logs)
         × (length (now erasures) ≡ rowSize)
         × (reach + reach + erasureCount (now erasures) rowSize ≤ 10) ⌝ }
@@ -74,8 +74,10 @@ fn row_search(
     ensures { λ r. ⌜ Places (at syndromes) reach (now (erasures .entry)) (take (r .count) (r .at)) ⌝ }
 {
     let locator = row_locator(logs, erasures, reach, syndromes);
+    let coefficients = locator.coefficients;
+    let end = locator.degree + 1;
     let mut at = [0u8; 10];
-    let count = crate::search::search(logs, &locator[..reach + 1], erasures, &mut at);
+    let count = crate::search::search(logs, &coefficients[..end], erasures, &mut at);
     RowPlaces { at, count }
 }
 

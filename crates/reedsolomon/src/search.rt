@@ -36,12 +36,7 @@ fn is_suspect(logs: &[u8; 768], locator: &[u8], mark: u8, k: u8) -> bool
 }
 
 // The places of a word at which an error may stand, highest first; how many there are. There is a mark for each byte of the word.
-pub(crate) fn search(
-    logs: &[u8; 768],
-    locator: &[u8],
-    erasures: &[u8],
-    places: &mut [u8],
-) -> usize
+pub(crate) fn search(logs: &[u8; 768], locator: &[u8], erasures: &[u8], places: &mut [u8]) -> usize
     requires { ⌜ LogTable (now logs)
         × (length (now erasures) ≤ 255)
         × NonZero (now locator)

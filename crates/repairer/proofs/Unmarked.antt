@@ -1,7 +1,7 @@
 -- With marks that are all 0 the block repairer is that of document 01, as it was before request 2: each row becomes the one code row within five bytes, or stays
 -- (rows-unmarked, tallies-unmarked), and so the answer (answer-unmarked) and the two buffers (block-unmarked, main-unmarked).
 -- Assumes nothing.
-use mathlib.Core.Path.{_≡_, refl, sym, ap, ap₂, _∙_}
+use mathlib.Core.Path.{_≡_, refl, ap, ap₂, _∙_}
 use mathlib.Core.Bool.{Bool, true, false, cond, _&&_}
 use mathlib.Core.List.{List}
 use Prim.Native.Nat.{ℕ, _+_, _/_, _%_, _<_}
@@ -9,7 +9,6 @@ use native.Mathlib.Omega.{arith}
 use borrow.Author.Tests.{eq-eqb, eqb-true, le-leb}
 use lib.Dec.{eqb, leb}
 use lib.ListN.{length, getD}
-use Rattle.lists.specs.Count.{countFrom}
 use Rattle.lists.specs.Fill.{tabulate}
 use Rattle.lists.specs.Test.{below}
 use Rattle.lists.proofs.Count.{count-same}

@@ -1,7 +1,7 @@
 -- The rows of a block as it is read, with the sector reader's marks: no more of them are far from the block's than are overloaded (far-overloaded), and one that is
 -- not comes back whole from the row repair (row-comes-back), with ten unknown words and no other fault for one (ten-unknown).
 -- Assumes nothing.
-use mathlib.Core.Path.{_≡_, refl, sym, ap, ap₂, subst, _∙_}
+use mathlib.Core.Path.{_≡_, refl, sym, ap, subst, _∙_}
 use mathlib.Core.Bool.{Bool, true, false, not, _&&_}
 use mathlib.Core.List.{List}
 use Prim.Native.Nat.{ℕ, _+_, _*_, _<_, _≤_}
@@ -11,11 +11,10 @@ use lib.Dec.{T, eqb, ltb, ltb→lt, lt→ltb}
 use lib.ListN.{length, getD}
 use Rattle.lists.specs.Bytes.{Bytes}
 use Rattle.lists.specs.Count.{bit, countFrom}
-use Rattle.lists.specs.Fill.{tabulateFrom}
 use Rattle.lists.proofs.Count.{count-same, count-order}
 use Rattle.lists.proofs.Fill.{length-tabulateFrom, getD-tabulateFrom}
 use Rattle.codes.specs.Erasures.{isErased, erasureCount, errorCount, nearestErased}
-use Rattle.layout.specs.Lengths.{rowCount, rowSize, blockSize}
+use Rattle.layout.specs.Lengths.{rowCount, rowSize}
 use Rattle.layout.specs.Rows.{rowOf}
 use Rattle.layout.proofs.Places.{row-byte}
 use Rattle.eccblock.specs.Block.{block}

@@ -6,23 +6,27 @@ use Rattle.blockreader.proofs.read_block.Tie as tie
 
 returns : tie.Need-returns
 returns c =
-    let a = c .before .before .before .before .before .args in
+    let back4 = c .before .before .before .before in
+    let a = back4 .before .args in
     clauses (a .stream .now) (a .block .now) (a .erasures .now) (a .main .now) _ _ _ _ (stream-length (a .stream .now) (a .block .now) (a .erasures .now) (a .main .now) (c .if1 .taken))
 
 returns-2 : tie.Need-returns-2
 returns-2 c =
-    let a = c .before .before .before .before .before .before .args in
+    let back4 = c .before .before .before .before in
+    let a = back4 .before .before .args in
     clauses (a .stream .now) (a .block .now) (a .erasures .now) (a .main .now) _ _ _ _ (block-length (a .stream .now) (a .block .now) (a .erasures .now) (a .main .now) (c .before .if1 .left) (c .if2 .taken))
 
 returns-3 : tie.Need-returns-3
 returns-3 c =
-    let a = c .before .before .before .before .before .before .before .args in
+    let back4 = c .before .before .before .before in
+    let a = back4 .before .before .before .args in
     clauses (a .stream .now) (a .block .now) (a .erasures .now) (a .main .now) _ _ _ _ (erasures-length (a .stream .now) (a .block .now) (a .erasures .now) (a .main .now) (c .before .before .if1 .left) (c .before .if2 .left) (c .if3 .taken))
 
 returns-4 : tie.Need-returns-4
 returns-4 c =
     let fit = c .before in
-    let a = fit .before .before .before .before .before .before .before .args in
+    let fit4 = fit .before .before .before .before in
+    let a = fit4 .before .before .before .args in
     clauses (a .stream .now) (a .block .now) (a .erasures .now) (a .main .now) _ _ _ _ (main-length (a .stream .now) (a .block .now) (a .erasures .now) (a .main .now) (fit .before .before .if1 .left) (fit .before .if2 .left) (fit .if3 .left) (c .if4 .taken))
 
 read-sectors-requires : tie.Need-read-sectors-requires
@@ -45,7 +49,8 @@ same-length-3 c = search needs
 
 returns-5 : tie.Need-returns-5
 returns-5 c =
-    let repair = c .before .before .before .before .before in
+    let back4 = c .before .before .before .before in
+    let repair = back4 .before in
     let back9 = repair .before .before .before .before in
     let read = back9 .before .before .before .before in
     let fit = read .before .before .before in

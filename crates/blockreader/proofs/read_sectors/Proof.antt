@@ -6,6 +6,7 @@ use lib.ListN.{length, getD, take, drop, length-drop}
 use lib.Seq.{length-take-le}
 use Rattle.lists.proofs.Fill.{Upto, upto-none}
 use Rattle.channel.specs.Block.{readAt}
+use Rattle.layout.specs.Lengths.{sectorSize, sectorStream, sectorRead, blockSize}
 use Rattle.layout.specs.Sectors.{sectorPart}
 use Rattle.reader.specs.Sector.{unknownTally, syncTally}
 use Rattle.blockreader.specs.BlockReader.{sectorSum}
@@ -17,7 +18,7 @@ use Rattle.blockreader.proofs.read_sectors.Tie as tie
 
 abbrev Inv-loop : tie.InvT-loop
 Inv-loop stream block₀ erasures₀ words substitutes index syncs s₀ k₀ block erasures s k =
-    (k ≤ 16) × Upto (readAt stream) block₀ block (2366 * k) × Upto (markAt stream) erasures₀ erasures (2366 * k) × (s .unknown ≤ 2366 * k) × (s .sync ≤ 26 * k)
+    (k ≤ 16) × Upto (readAt stream) block₀ block (sectorSize * k) × Upto (markAt stream) erasures₀ erasures (sectorSize * k) × (s .unknown ≤ sectorSize * k) × (s .sync ≤ 26 * k)
     × (s .unknown + sectorSum unknownTally stream k (16 - k) ≡ sectorSum unknownTally stream 0 16) × (s .sync + sectorSum syncTally stream k (16 - k) ≡ sectorSum syncTally stream 0 16)
 
 abbrev μ-loop : tie.MeasureT-loop
@@ -84,7 +85,8 @@ with-requires : tie.Need-with-requires Inv-loop μ-loop
 with-requires c κs =
     let back4 = c .before .before .before .before in
     let back8 = back4 .before .before .before .before in
-    let turn = back8 .before .before .before .before .before in
+    let back84 = back8 .before .before .before .before in
+    let turn = back84 .before in
     let l = turn .loop in
     (omega arith, omega arith)
 
@@ -96,33 +98,36 @@ loop-less c = omega arith
 
 loop-again : tie.Need-loop-again Inv-loop μ-loop
 loop-again c =
-    let read = c .before .before .before .before .before in
+    let back4 = c .before .before .before .before in
+    let read = back4 .before in
     let back9 = read .before .before .before .before in
-    let turn = back9 .before .before .before .before .before in
+    let back94 = back9 .before .before .before .before in
+    let turn = back94 .before in
     let back18 = turn .before .before .before .before in
-    let s = back18 .before .before .before .before .before .before in
+    let back184 = back18 .before .before .before .before in
+    let s = back184 .before .before in
     let l = turn .loop in
     let xs = s .args .stream .now in
-    let d : List ℕ = take (4836 * l .k + 4838 - 4836 * l .k) (drop (4836 * l .k) xs) in
-    let b : List ℕ → List ℕ = λ ys. take (2366 * l .k + 2366 - 2366 * l .k) (drop (2366 * l .k) ys) in
+    let d : List ℕ = take (sectorStream * l .k + sectorRead - sectorStream * l .k) (drop (sectorStream * l .k) xs) in
+    let b : List ℕ → List ℕ = λ ys. take (sectorSize * l .k + sectorSize - sectorSize * l .k) (drop (sectorSize * l .k) ys) in
     let hk : l .k < 16 = omega arith in
-    let e4 : 4836 * l .k + 4838 - 4836 * l .k ≡ 4838 = omega arith in
-    let e2 : 2366 * l .k + 2366 - 2366 * l .k ≡ 2366 = omega arith in
-    let lb : length (l .block) ≡ 37856 = l .inv .1 .same ∙ s .pre .1 in
-    let le : length (l .erasures) ≡ 37856 = l .inv .2 .same ∙ s .pre .2 in
-    let e : d ≡ sectorPart xs (l .k) = ap (λ (n : ℕ). take n (drop (4836 * l .k) xs)) e4 in
-    let sized : (ys : List ℕ) → length ys ≡ 37856 → length (b ys) ≡ 2366 = λ ys ly.
-    ap (λ (n : ℕ). length (take n (drop (2366 * l .k) ys))) e2 ∙ length-take-le 2366 (drop (2366 * l .k) ys) (rw length-drop (omega (arith, ly))) in
+    let e4 : sectorStream * l .k + sectorRead - sectorStream * l .k ≡ sectorRead = omega arith in
+    let e2 : sectorSize * l .k + sectorSize - sectorSize * l .k ≡ sectorSize = omega arith in
+    let lb : length (l .block) ≡ blockSize = l .inv .1 .same ∙ s .pre .1 in
+    let le : length (l .erasures) ≡ blockSize = l .inv .2 .same ∙ s .pre .2 in
+    let e : d ≡ sectorPart xs (l .k) = ap (λ (n : ℕ). take n (drop (sectorStream * l .k) xs)) e4 in
+    let sized : (ys : List ℕ) → length ys ≡ blockSize → length (b ys) ≡ sectorSize = λ ys ly.
+    ap (λ (n : ℕ). length (take n (drop (sectorSize * l .k) ys))) e2 ∙ length-take-le sectorSize (drop (sectorSize * l .k) ys) (rw length-drop (omega (arith, ly))) in
     let ob = sized (l .block) lb in
     let oe = sized (l .erasures) le in
     let r = read .read-sector-with .ensures in
     let m = sums-next xs d (l .k) hk (s .pre .0) e (l .s) (c .with .result) (length (b (l .block))) (length (b (l .erasures))) _ ob oe (r .0) (c .with .ensures) in
-    let x : 2366 * l .k + 2366 ≡ 2366 * (l .k + 1) = omega arith in (
+    let x : sectorSize * l .k + sectorSize ≡ sectorSize * (l .k + 1) = omega arith in (
       omega arith,
-      upto-put (readAt xs) (s .args .block .now) (l .block) (read .read-sector-with .last .1 .1 .1 .1 .1 .0) (2366 * l .k) 2366 (2366 * l .k + 2366 - 2366 * l .k) (2366 * (l .k + 1)) e2 (sym x) (omega (arith, lb))
+      upto-put (readAt xs) (s .args .block .now) (l .block) (read .read-sector-with .last .1 .1 .1 .1 .1 .0) (sectorSize * l .k) sectorSize (sectorSize * l .k + sectorSize - sectorSize * l .k) (sectorSize * (l .k + 1)) e2 (sym x) (omega (arith, lb))
           (ap length (r .1 .1 .0) ∙ sector-length xs d (l .k) hk (s .pre .0) e (b (l .block)) _ ob oe)
           (λ i h. ap (λ (z : List ℕ). getD z i 0) (r .1 .1 .0) ∙ sector-bytes xs d (l .k) hk (s .pre .0) e (b (l .block)) _ ob oe i h) (l .inv .1),
-      upto-put (markAt xs) (s .args .erasures .now) (l .erasures) (read .read-sector-with .last .1 .1 .1 .1 .1 .1 .0) (2366 * l .k) 2366 (2366 * l .k + 2366 - 2366 * l .k) (2366 * (l .k + 1)) e2 (sym x) (omega (arith, le))
+      upto-put (markAt xs) (s .args .erasures .now) (l .erasures) (read .read-sector-with .last .1 .1 .1 .1 .1 .1 .0) (sectorSize * l .k) sectorSize (sectorSize * l .k + sectorSize - sectorSize * l .k) (sectorSize * (l .k + 1)) e2 (sym x) (omega (arith, le))
           (ap length (r .1 .1 .1) ∙ erasures-length xs d (l .k) hk (s .pre .0) e _ (b (l .erasures)) ob oe)
           (λ i h. ap (λ (z : List ℕ). getD z i 0) (r .1 .1 .1) ∙ sector-erasures xs d (l .k) hk (s .pre .0) e _ (b (l .erasures)) ob oe i h) (l .inv .2),
       omega (arith, m .0, unknown-le (sectorPart xs (l .k)), l .inv .3),
@@ -144,7 +149,7 @@ returns c =
     let s = back8 .before .before .before in
     let xs = s .args .stream .now in
     let l = c .before .loop in
-    let e : 2366 * l .k ≡ 37856 = omega arith in (
+    let e : sectorSize * l .k ≡ blockSize = omega arith in (
       sectors-all xs (s .args .block .now) (l .block) (s .pre .1) (rw e at (l .inv .1)),
       erasures-all xs (s .args .erasures .now) (l .erasures) (s .pre .2) (rw e at (l .inv .2)),
       omega (arith, sum-end unknownTally xs (l .k) (omega arith), l .inv .5),

@@ -13,7 +13,8 @@ lengths-fit-requires c κs = search needs
 returns : tie.Need-returns
 unfolding lengthsFit
 returns c =
-    let a = c .before .before .before .before .before .args in
+    let back4 = c .before .before .before .before in
+    let a = back4 .before .args in
     length-refused (a .block .now) (a .erasures .now) (a .main .now) _ (c .before .lengths-fit .ensures) (not-true _ (c .if1 .taken))
 
 marks-fit-requires : tie.Need-marks-fit-requires
@@ -121,7 +122,8 @@ hand-out-requires : tie.Need-hand-out-requires
 unfolding lengthsFit
 hand-out-requires c κs =
     let judged = c .before .before .before .before in
-    let columns = judged .before .before .before .before .before in
+    let judged4 = judged .before .before .before .before in
+    let columns = judged4 .before in
     let multiplied = columns .before .before .before .before in
     let rows = multiplied .before .before .before in
     let tables = rows .before .before .before .before in

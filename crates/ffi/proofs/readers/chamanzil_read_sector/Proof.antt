@@ -11,7 +11,8 @@ use Rattle.ffi.proofs.readers.chamanzil_read_sector.Tie as tie
 
 returns : tie.Need-returns
 returns c =
-    let a = c .before .before .before .before .before .args in
+    let back4 = c .before .before .before .before in
+    let a = back4 .before .args in
     let xs = a .stream .now in
     let n = length (a .out .now) in
     let m = length (a .erasures .now) in
@@ -51,9 +52,11 @@ same-length-3 c = search needs
 returns-2 : tie.Need-returns-2
 returns-2 c =
     let laid = c .before .before .before in
-    let read = laid .before .before .before .before .before .before in
+    let laid4 = laid .before .before .before .before in
+    let read = laid4 .before .before in
     let fit = read .before .before .before in
-    let a = fit .before .before .before .before .before .args in
+    let fit4 = fit .before .before .before .before in
+    let a = fit4 .before .args in
     let xs = a .stream .now in
     let n = length (a .out .now) in
     let m = length (a .erasures .now) in

@@ -11,7 +11,8 @@ use Rattle.ffi.proofs.readers.chamanzil_repair_block.Tie as tie
 
 returns : tie.Need-returns
 returns c =
-    let a = c .before .before .before .before .before .args in
+    let back4 = c .before .before .before .before in
+    let a = back4 .before .args in
     let xs = a .block .now in
     let ms = a .erasures .now in
     let n = length (a .main .now) in
@@ -54,7 +55,8 @@ returns-2 c =
     let kept = laid .before .before .before in
     let repaired = kept .before .before .before in
     let fit = repaired .before .before .before in
-    let a = fit .before .before .before .before .before .args in
+    let fit4 = fit .before .before .before .before in
+    let a = fit4 .before .args in
     let xs = a .block .now in
     let ms = a .erasures .now in
     let n = length (a .main .now) in

@@ -9,6 +9,7 @@ use mir.Syntax.{w8}
 use borrow.Author.Needs.{needs}
 use Rattle.lists.specs.Bytes.{Bytes}
 use Rattle.lists.proofs.Bytes.{bytes-of}
+use Rattle.layout.specs.Lengths.{rowCount}
 use Rattle.codes.proofs.Decision.{places-below}
 use Rattle.reedsolomon.proofs.Repair.{column-shape, word-clean, word-corrected, word-uncorrectable, zeros-count, unmarked-repaired}
 use Rattle.reedsolomon.proofs.column.correct_column_from.Statement.{statement}
@@ -34,7 +35,7 @@ Start =
       syndromes-reads.Learnt,
     ) reads.Pre reads.Post
 
-size : (start : Start) → length (start .args .column .bytes) ≡ 208
+size : (start : Start) → length (start .args .column .bytes) ≡ rowCount
 size start = search needs
 
 bytes : (start : Start) → Bytes (start .args .column .bytes)
@@ -42,10 +43,10 @@ bytes start = bytes-of (start .args .column .bytes) (λ i l. let f : Fits w8 (ge
 
 -- no byte is marked
 abbrev unmarked : List ℕ
-unmarked = replicate 208 0
+unmarked = replicate rowCount 0
 
-unmarked-length : length unmarked ≡ 208
-unmarked-length = length-replicate {A = ℕ} 208 0
+unmarked-length : length unmarked ≡ rowCount
+unmarked-length = length-replicate {A = ℕ} rowCount 0
 
 slice-aggregate-all-zero : tie.Need-slice-aggregate-all-zero
 slice-aggregate-all-zero c = search needs
@@ -56,8 +57,8 @@ all-zero-requires c κs = search needs
 returns : tie.Need-returns
 returns c =
     let start = c .before .before .before .before in
-    unmarked-repaired 208 8 _ _ _ (bytes start)
-    (word-clean column-shape _ (size start) (bytes start) unmarked (unmarked-length) 0 (zeros-count 208) (omega arith)
+    unmarked-repaired rowCount 8 _ _ _ (bytes start)
+    (word-clean column-shape _ (size start) (bytes start) unmarked (unmarked-length) 0 (zeros-count rowCount) (omega arith)
     _ (start .pre .2) _ (c .before .all-zero .ensures) (c .if1 .taken))
 
 column-search-requires : tie.Need-column-search-requires
@@ -65,7 +66,8 @@ column-search-requires c κs = search needs
 
 column-mend-requires : tie.Need-column-mend-requires
 column-mend-requires c κs =
-    let start = c .before .before .before .before .before in
+    let back4 = c .before .before .before .before in
+    let start = back4 .before in
     let found = c .column-search .ensures in
     (start .pre .0, found .0, places-below _ _ unmarked _ (found .1))
 
@@ -85,8 +87,8 @@ returns-2 c =
     let found = mended .before in
     let dirty = found .before in
     let start = dirty .before .before .before .before in
-    unmarked-repaired 208 8 _ _ _ (bytes start)
-    (word-corrected column-shape _ (size start) (bytes start) unmarked (unmarked-length) 0 (zeros-count 208) (omega arith)
+    unmarked-repaired rowCount 8 _ _ _ (bytes start)
+    (word-corrected column-shape _ (size start) (bytes start) unmarked (unmarked-length) 0 (zeros-count rowCount) (omega arith)
     _ (start .pre .2) _ (dirty .before .all-zero .ensures) (dirty .if1 .left)
     _ (found .column-search .ensures .1) _ (mended .column-mend .ensures) _ (summed .column-syndromes .ensures) _ (c .before .all-zero2 .ensures) (c .if2 .taken))
 
@@ -97,8 +99,8 @@ returns-3 c =
     let found = mended .before in
     let dirty = found .before in
     let start = dirty .before .before .before .before in
-    unmarked-repaired 208 8 _ _ _ (bytes start)
-    (word-uncorrectable column-shape _ (size start) (bytes start) unmarked (unmarked-length) 0 (zeros-count 208) (omega arith)
+    unmarked-repaired rowCount 8 _ _ _ (bytes start)
+    (word-uncorrectable column-shape _ (size start) (bytes start) unmarked (unmarked-length) 0 (zeros-count rowCount) (omega arith)
     _ (start .pre .2) _ (dirty .before .all-zero .ensures) (dirty .if1 .left)
     _ (found .column-search .ensures .1) _ (mended .column-mend .ensures) _ (summed .column-syndromes .ensures) _ (c .before .all-zero2 .ensures) (c .if2 .left))
 

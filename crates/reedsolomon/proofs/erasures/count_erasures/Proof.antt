@@ -1,7 +1,7 @@
 -- `erasures::count_erasures` meets its contract: the marked bytes before i are counted. Assumes nothing.
 use mathlib.Core.Path.{_≡_, refl, ap, _∙_}
 use mathlib.Core.Logic.{⊎-elim}
-use Prim.Native.Nat.{ℕ, _-_, _≤_}
+use Prim.Native.Nat.{_-_, _≤_}
 use native.Mathlib.Omega.{arith}
 use borrow.Author.Tests.{eq-eqb, ne-eqb}
 use lib.ListN.{length, getD}
@@ -46,6 +46,11 @@ loop-again c =
     (λ other. (omega arith, omega (arith, other .1, turn .loop .inv .1, more, ap bit (ne-eqb (getD m i 0) 1 (other .0 .left)))))
     (c .if1 .came)
 
+cast-result : tie.Need-cast-result Inv-loop μ-loop
+cast-result c =
+    let m = c .before .before .args .erasures .now in
+    omega (arith, c .before .loop .inv .1, count-le (isErased m) 0 (c .before .loop .i))
+
 returns : tie.Need-returns Inv-loop μ-loop
 unfolding erasureCount
 returns c =
@@ -65,4 +70,5 @@ count-erasures-spec =
     add-i
     loop-less
     loop-again
+    cast-result
     returns)

@@ -13,10 +13,6 @@ use Rattle.lists.proofs.Fill.{length-tabulate}
 use Rattle.reedsolomon.proofs.Loops.{marked-take, marked-skip, without-at}
 use Rattle.reedsolomon.proofs.erasures.take_out_erased.Statement.{statement}
 use Rattle.reedsolomon.proofs.erasures.take_out_erased.Tie as tie
-use Rattle.reedsolomon.proofs.erasures.take_out_erased.Reads as reads
-use Rattle.reedsolomon.proofs.erasures.take_out_erased.Lts as lts
-use Rattle.field.proofs.alpha_power.Reads as alpha-power-reads
-use Rattle.reedsolomon.proofs.mend.take_out.Reads as take-out-reads
 
 abbrev Inv-loop : tie.InvT-loop
 Inv-loop logs erasures syndromes₀ i₀ k₀ syndromes i k =
@@ -39,11 +35,15 @@ shared-slice-read-if1 : tie.Need-shared-slice-read-if1 Inv-loop μ-loop
 shared-slice-read-if1 c = omega arith
 
 alpha-power-requires : tie.Need-alpha-power-requires Inv-loop μ-loop
-alpha-power-requires c κs = c .before .before .before .before .before .before .pre .0
+alpha-power-requires c κs =
+    let turn = c .before .before .before in
+    let start = turn .before .before .before in
+    start .pre .0
 
 take-out-requires : tie.Need-take-out-requires Inv-loop μ-loop
 take-out-requires c κs =
-    let turn = c .before .before .before .before .before in
+    let back4 = c .before .before .before .before in
+    let turn = back4 .before in
     let start = turn .before .before .before in
     (start .pre .0, omega (arith, start .pre .2, turn .loop .inv .1))
 

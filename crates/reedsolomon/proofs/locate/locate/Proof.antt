@@ -1,6 +1,6 @@
 -- `locate::locate` meets its contract: some power of x becomes a locator, since there are fewer equations than powers. Assumes nothing.
 use mathlib.Core.Path.{_≡_, refl, sym, ap, _∙_}
-use Prim.Native.Nat.{ℕ, _-_, _*_, _≤_}
+use Prim.Native.Nat.{ℕ, _-_, _*_, _<_, _≤_}
 use lib.ListN.{length, length-replicate}
 use Rattle.codes.specs.Inner.{at, unit, Pivots}
 use Rattle.codes.proofs.Elimination.{pivots-none, pivots-few, reduced, locates}
@@ -59,9 +59,12 @@ returns c =
     let turn = after-set-unit .before .before .before in
     let s = turn .before .before .before .before in
     let l = turn .loop in
-    locates (at (s .args .syndromes .now)) (length (s .args .locator .now)) (l .k) _ (s .pre .1)
-    ((reduced (at (s .args .syndromes .now)) (length (s .args .locator .now)) (l .k) (l .pivots) _ _ _ _ (after-set-unit .set-unit .ensures ∙ ap (λ (n : ℕ). unit n (l .k)) (l .inv .1)) (omega arith)
-    (after-clear-equations .clear-equations .ensures) (l .inv .2)) .goes (c .if1 .taken) .1)
+    let below : l .k < length (s .args .locator .now) = omega arith in (
+      below,
+      locates (at (s .args .syndromes .now)) (length (s .args .locator .now)) (l .k) _ below
+          ((reduced (at (s .args .syndromes .now)) (length (s .args .locator .now)) (l .k) (l .pivots) _ _ _ _ (after-set-unit .set-unit .ensures ∙ ap (λ (n : ℕ). unit n (l .k)) (l .inv .1)) (omega arith)
+          (after-clear-equations .clear-equations .ensures) (l .inv .2)) .goes (c .if1 .taken) .1),
+    )
 
 add-k : tie.Need-add-k Inv-loop μ-loop
 add-k c = omega arith

@@ -8,6 +8,7 @@ use mir.Syntax.{w8}
 use borrow.Author.Needs.{needs}
 use Rattle.lists.specs.Bytes.{Bytes}
 use Rattle.lists.proofs.Bytes.{bytes-of}
+use Rattle.layout.specs.Lengths.{rowSize}
 use Rattle.codes.specs.Erasures.{erasureCount}
 use Rattle.codes.proofs.Decision.{places-below}
 use Rattle.reedsolomon.proofs.Repair.{row-shape, word-overfull, word-clean, word-corrected, word-uncorrectable}
@@ -37,14 +38,14 @@ Start =
       row-syndromes-reads.Learnt,
     ) reads.Pre reads.Post
 
-size : (start : Start) → length (start .args .row .bytes) ≡ 182
+size : (start : Start) → length (start .args .row .bytes) ≡ rowSize
 size start = search needs
 
 bytes : (start : Start) → Bytes (start .args .row .bytes)
 bytes start = bytes-of (start .args .row .bytes) (λ i l. let f : Fits w8 (getD (start .args .row .bytes) i 0) = search needs in omega arith)
 
 -- the marks, counted over the row's 182 bytes
-counted : (start : Start) (f : ℕ) → f ≡ erasureCount (start .args .erasures .now) (length (start .args .erasures .now)) → f ≡ erasureCount (start .args .erasures .now) 182
+counted : (start : Start) (f : ℕ) → f ≡ erasureCount (start .args .erasures .now) (length (start .args .erasures .now)) → f ≡ erasureCount (start .args .erasures .now) rowSize
 counted start f e = e ∙ ap (erasureCount (start .args .erasures .now)) (start .pre .2)
 
 count-erasures-requires : tie.Need-count-erasures-requires

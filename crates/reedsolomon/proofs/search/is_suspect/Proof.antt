@@ -8,10 +8,6 @@ use Rattle.codes.specs.Inner.{polyAt, isRoot}
 use borrow.Author.Needs.{needs}
 use Rattle.reedsolomon.proofs.search.is_suspect.Statement.{statement}
 use Rattle.reedsolomon.proofs.search.is_suspect.Tie as tie
-use Rattle.reedsolomon.proofs.search.is_suspect.Reads as reads
-use Rattle.reedsolomon.proofs.search.is_suspect.Lts as lts
-use Rattle.field.proofs.alpha_power.Reads as alpha-power-reads
-use Rattle.reedsolomon.proofs.search.poly_value.Reads as poly-value-reads
 
 returns : tie.Need-returns
 returns c =

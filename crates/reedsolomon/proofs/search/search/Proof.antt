@@ -62,7 +62,10 @@ shared-slice-read-is-suspect : tie.Need-shared-slice-read-is-suspect Inv-loop μ
 shared-slice-read-is-suspect c = omega arith
 
 is-suspect-requires : tie.Need-is-suspect-requires Inv-loop μ-loop
-is-suspect-requires c κs = c .before .before .before .before .before .before .pre .0
+is-suspect-requires c κs =
+    let turn = c .before .before in
+    let start = turn .before .before .before .before in
+    start .pre .0
 
 slice-write-places : tie.Need-slice-write-places Inv-loop μ-loop
 slice-write-places c = room c
@@ -110,7 +113,8 @@ same-length c = c .before .loop .inv .1
 returns : tie.Need-returns Inv-loop μ-loop
 unfolding placesWhere
 returns c =
-    let s = c .before .before .before .before .before in
+    let back4 = c .before .before .before .before in
+    let s = back4 .before in
     let l = c .before .loop in
     let e : l .k ≡ 0 = omega arith in (
       l .inv .0,

@@ -11,6 +11,7 @@ use Rattle.codes.specs.Word.{syndrome}
 use Rattle.codes.specs.Erasures.{erasureCount, nearestErased, outcomeErased}
 use Rattle.bytes.proofs.Copies.{put-stored, stored-same}
 use Rattle.layout.specs.Inner.{rowPlace}
+use Rattle.layout.specs.Lengths.{rowSize}
 use Rattle.layout.specs.Rows.{rowOf}
 use Rattle.layout.proofs.Places.{row-length}
 use Rattle.repairer.specs.declared.words.Axis.the-variants.{Rows}
@@ -19,8 +20,8 @@ use Rattle.repairer.proofs.rows.repair_row.Statement.{statement}
 use Rattle.repairer.proofs.rows.repair_row.Tie as tie
 
 -- the marks of row q, as they are lent
-marks-of : (ms : List ℕ) (q : ℕ) → take (q * 182 + 182 - q * 182) (drop (q * 182) ms) ≡ rowOf ms q
-marks-of ms q = let e : q * 182 + 182 - q * 182 ≡ 182 = omega arith in ap (λ (n : ℕ). take n (drop (q * 182) ms)) e
+marks-of : (ms : List ℕ) (q : ℕ) → take (q * rowSize + rowSize - q * rowSize) (drop (q * rowSize) ms) ≡ rowOf ms q
+marks-of ms q = let e : q * rowSize + rowSize - q * rowSize ≡ rowSize = omega arith in ap (λ (n : ℕ). take n (drop (q * rowSize) ms)) e
 
 row-syndromes-requires : tie.Need-row-syndromes-requires
 row-syndromes-requires c κs = search needs
@@ -83,8 +84,7 @@ correct-row-from-requires c κs =
     let taken = c .before in
     let counted = taken .before .before .before in
     let summed = counted .before .before in
-    let start = summed .before .before .before .before in
-    (
+    let start = summed .before .before .before .before in (
       start .pre .0,
       start .pre .1,
       ap length (marks-of (start .args .erasures .now) (start .args .q)) ∙ row-length (start .args .erasures .now) (start .args .q) (start .pre .2) (start .pre .4),
@@ -130,8 +130,8 @@ returns-2 c =
     let w = taken .row-at .ensures in
     let near = r .0 ∙ ap₂ (nearestErased 10) (marks-of ms q) w in
     let l = ap length near ∙ repaired-size Rows ms xs q (start .pre .3) small (start .pre .4) in
-    let stored = put-stored _ xs _ (q * 182) 182 l (omega (arith, start .pre .3, start .pre .4)) (put .put .ensures) in
-    (r .1 ∙ ap₂ (outcomeErased 10) (marks-of ms q) w, stored-same (rowPlace q) _ _ _ _ 182 near stored)
+    let stored = put-stored _ xs _ (q * rowSize) rowSize l (omega (arith, start .pre .3, start .pre .4)) (put .put .ensures) in
+    (r .1 ∙ ap₂ (outcomeErased 10) (marks-of ms q) w, stored-same (rowPlace q) _ _ _ _ rowSize near stored)
 
 pub repair-row-spec : {M : Type 1} → statement M
 repair-row-spec =
