@@ -13,7 +13,7 @@ use Rattle.dataframe.specs.Checks.{numberOf, mainOfBlock}
 use Rattle.layout.specs.Rows.{frameOf}
 use Rattle.layout.specs.Lengths.{mainSize, blockSize, rowCount, columnCount}
 use Rattle.repairer.specs.Repair.{rowsRepaired, columnsRepaired, repaired, tallyOf, talliesOf}
-use Rattle.repairer.specs.Answer.{frameFault, judged, lengthsFit, marksFit, repairs, repairAnswer, handsOut, blockAfter, mainAfter, repairNumber, repairRefusal, repairFrame, refusedFrame}
+use Rattle.repairer.specs.Answer.{frameFault, judged, lengthsFit, marksFit, inputFits, repairAnswer, handsOut, blockAfter, mainAfter, repairNumber, repairRefusal, repairFrame, refusedFrame}
 use Rattle.repairer.specs.Inner.{outcomeOfWord}
 use Rattle.repairer.specs.declared.Tally.{Tally}
 use Rattle.repairer.specs.declared.Tallies.{Tallies}
@@ -81,7 +81,7 @@ held LengthRefused m = refl
 -- fits says whether the lengths are as stated
 module _ (xs ms old : List ℕ) (fits : Bool) (ef : fits ≡ lengthsFit xs ms (length old)) where
   pub length-refused : fits ≡ false → Meets xs ms old LengthRefused xs old
-  unfolding repairAnswer blockAfter mainAfter repairs
+  unfolding repairAnswer blockAfter mainAfter inputFits
   length-refused n = let z : lengthsFit xs ms (length old) ≡ false = sym ef ∙ n in meets xs ms old LengthRefused xs old (rw z) (rw z) (rw z)
 
   module _ (y : fits ≡ true) where
@@ -102,7 +102,7 @@ module _ (xs ms old : List ℕ) (fits : Bool) (ef : fits ≡ lengthsFit xs ms (l
     -- t says whether the marks fit
     module _ (t : Bool) (et : t ≡ marksFit ms) where
       pub mark-refused : t ≡ false → Meets xs ms old ErasureRefused xs old
-      unfolding repairAnswer blockAfter mainAfter repairs
+      unfolding repairAnswer blockAfter mainAfter inputFits
       mark-refused n = let z : marksFit ms ≡ false = sym et ∙ n in meets xs ms old ErasureRefused xs old (rw (fit, z)) (rw (fit, z)) (rw (fit, z))
 
       module _ (u : t ≡ true) where
@@ -114,7 +114,7 @@ module _ (xs ms old : List ℕ) (fits : Bool) (ef : fits ≡ lengthsFit xs ms (l
         answered = rw (fit, marked)
 
         block-left : repaired xs ms ≡ blockAfter xs ms (length old)
-        unfolding blockAfter repairs
+        unfolding blockAfter inputFits
         block-left = rw (fit, marked)
 
         module _ (ys : List ℕ) (r : Repaired) (v : Verdict xs ms ys r) where

@@ -12,7 +12,7 @@ use lib.Dec.{eqb, ltb}
 use Rattle.dataframe.specs.Checks.{infoOf, numberOf, iedPasses, idPasses, edcPasses, frameRefusal}
 use Rattle.layout.specs.Rows.{frameOf}
 use Rattle.repairer.specs.Repair.{repaired, talliesOf}
-use Rattle.repairer.specs.Answer.{frameFault, judged, lengthsFit, marksFit, repairs, repairAnswer, noFrame, firstFailing, refusedFrame, repairRefusal, repairNumber, repairFrame}
+use Rattle.repairer.specs.Answer.{frameFault, judged, lengthsFit, marksFit, inputFits, repairAnswer, noFrame, firstFailing, refusedFrame, repairRefusal, repairNumber, repairFrame}
 use Rattle.repairer.specs.declared.Repaired.{Repaired}
 use Rattle.repairer.specs.declared.Repaired.the-variants.{Block, FrameRefused, ErasureRefused, LengthRefused}
 
@@ -78,7 +78,7 @@ module _ (xs ms : List ℕ) (n : ℕ) where
   passed = Block (numberOf (frameOf (repaired xs ms) 0)) (talliesOf xs ms)
 
   pub repair-frame : repairFrame (repairAnswer xs ms n) ≡ refusedFrame xs ms n
-  unfolding repairAnswer refusedFrame repairs
+  unfolding repairAnswer refusedFrame inputFits
   repair-frame = go (lengthsFit xs ms n) (marksFit ms)
     where
       go :
@@ -89,7 +89,7 @@ module _ (xs ms : List ℕ) (n : ℕ) where
       go false c = refl
 
   pub repair-number : repairNumber (repairAnswer xs ms n) ≡ repairRefusal xs ms n
-  unfolding repairAnswer repairRefusal refusedFrame repairs
+  unfolding repairAnswer repairRefusal refusedFrame inputFits
   repair-number = go (lengthsFit xs ms n) (marksFit ms)
     where
       go :

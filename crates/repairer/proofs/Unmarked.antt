@@ -23,7 +23,7 @@ use Rattle.layout.specs.Rows.{rowOf, columnOf, frameOf}
 use Rattle.layout.specs.Lengths.{mainSize, blockSize, sectorCount, rowCount, rowSize, columnCount}
 use Rattle.layout.proofs.Places.{row-length, row-bytes, row-byte}
 use Rattle.repairer.specs.Repair.{rowsRepaired, columnsRepaired, repaired, isCorrected, isUncorrectable, tallyOf, talliesOf}
-use Rattle.repairer.specs.Answer.{judged, lengthsFit, marksFit, repairs, repairAnswer, handsOut, blockAfter, mainAfter}
+use Rattle.repairer.specs.Answer.{judged, lengthsFit, marksFit, inputFits, repairAnswer, handsOut, blockAfter, mainAfter}
 use Rattle.repairer.specs.declared.Tally.{Tally}
 use Rattle.repairer.specs.declared.Tallies.{Tallies}
 use Rattle.repairer.specs.declared.Repaired.{Repaired}
@@ -118,7 +118,7 @@ module _ (xs ms : List ℕ) (small : (i : ℕ) → getD xs i 0 < 256) (sized : l
 
   -- and the buffers after the call
   pub block-unmarked : (n : ℕ) → blockAfter xs ms n ≡ blockWithinFive xs n
-  unfolding blockAfter repairs
+  unfolding blockAfter inputFits
   block-unmarked n =
       ap₂ (λ (t u : Bool). cond (t && u) (repaired xs ms) xs) (lengths-fit n) marks-fit ∙ go (eqb (length xs) blockSize) refl (eqb n mainSize)
     where

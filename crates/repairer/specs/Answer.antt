@@ -31,8 +31,8 @@ unfoldable pub marksFit : List ℕ → Bool
 marksFit ms = below (length ms) (λ i. leb (getD ms i 0) 1)
 
 -- nothing is refused before the repair: 1 is for a length, and 11, which comes after it, for a mark
-unfoldable pub repairs : List ℕ → List ℕ → ℕ → Bool
-repairs xs ms n = lengthsFit xs ms n && marksFit ms
+unfoldable pub inputFits : List ℕ → List ℕ → ℕ → Bool
+inputFits xs ms n = lengthsFit xs ms n && marksFit ms
 
 -- the answer to a block buffer that holds xs, the marks ms and a main data buffer of n bytes
 unfoldable pub repairAnswer : List ℕ → List ℕ → ℕ → Repaired
@@ -49,7 +49,7 @@ handsOut LengthRefused = false
 
 -- the block buffer after the call: the block after both repairs, also where a frame fails; as it was where a length or a mark is wrong
 unfoldable pub blockAfter : List ℕ → List ℕ → ℕ → List ℕ
-blockAfter xs ms n = cond (repairs xs ms n) (repaired xs ms) xs
+blockAfter xs ms n = cond (inputFits xs ms n) (repaired xs ms) xs
 
 -- the main data buffer after the call: the main data where they are handed out, else as it was
 unfoldable pub mainAfter : List ℕ → List ℕ → List ℕ → List ℕ
@@ -68,7 +68,7 @@ firstFailing ys k (suc n) = cond (eqb (frameFault ys k) 0) (firstFailing ys (suc
 
 -- the frame that a call is refused for: the first that fails of the block after both repairs. None where all pass, and none where a length or a mark is wrong
 unfoldable pub refusedFrame : List ℕ → List ℕ → ℕ → ℕ
-refusedFrame xs ms n = cond (repairs xs ms n) (firstFailing (repaired xs ms) 0 sectorCount) noFrame
+refusedFrame xs ms n = cond (inputFits xs ms n) (firstFailing (repaired xs ms) 0 sectorCount) noFrame
 
 -- the number that a call is refused with: 1 where a length is wrong; else 11 where a mark is; else that of the frame refused, the lowest of 4, 5 and 6 that applies
 -- in it; 0 where all pass

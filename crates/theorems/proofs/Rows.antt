@@ -7,7 +7,7 @@ use mathlib.Core.List.{List}
 use Prim.Native.Nat.{ℕ, _+_, _*_, _<_, _≤_}
 use native.Mathlib.Omega.{arith}
 use borrow.Author.Tests.{eq-eqb, le-ltb}
-use lib.Dec.{T, eqb, ltb, ltb→lt, lt→ltb}
+use lib.Dec.{T, eqb, ltb→lt, lt→ltb}
 use lib.ListN.{length, getD}
 use Rattle.lists.specs.Bytes.{Bytes}
 use Rattle.lists.specs.Count.{bit, countFrom}
@@ -20,7 +20,7 @@ use Rattle.layout.proofs.Places.{row-byte}
 use Rattle.eccblock.specs.Block.{block}
 use Rattle.eccblock.specs.Encode.{Accepted}
 use Rattle.eccblock.specs.declared.Previous.{Previous}
-use Rattle.channel.specs.Block.{readAt, readBlock, unknownAt, erasuresOfBlock, touched, unknownIn, touchedKnownIn, overloadedRows}
+use Rattle.channel.specs.Block.{readAt, readBlock, unknownAt, erasuresOfBlock, touched, unknownIn, touchedKnownIn, overloaded, overloadedRows}
 use Rattle.channel.proofs.Rows.{LaidBlock, reading}
 use Rattle.channel.proofs.Sectors.{read-row, erasures-row}
 use Rattle.theorems.proofs.ReadBytes.{read-block-length, read-block-bytes}
@@ -92,7 +92,7 @@ module _ {bs ys : List ℕ} (laid : LaidBlock bs ys) (xs : List ℕ) (hx : Bytes
 pub far-overloaded : {bs ys : List ℕ} → LaidBlock bs ys → (xs : List ℕ) → Bytes xs → farRows (readBlock xs) (erasuresOfBlock xs) bs ≤ overloadedRows ys xs
 unfolding farRows overloadedRows
 far-overloaded {bs} {ys} laid xs hx =
-    count-order (farRow (readBlock xs) (erasuresOfBlock xs) bs) (λ r. ltb 10 (2 * touchedKnownIn ys xs r + unknownIn xs r)) 0 rowCount
+    count-order (farRow (readBlock xs) (erasuresOfBlock xs) bs) (overloaded ys xs) 0 rowCount
     (λ r h t.
     let q : r < rowCount = omega arith in
     let n : ℕ = 2 * errorCount (rowOf (erasuresOfBlock xs) r) (rowOf (readBlock xs) r) (rowOf bs r) + erasureCount (rowOf (erasuresOfBlock xs) r) rowSize in
