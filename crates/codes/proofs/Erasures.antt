@@ -4,7 +4,7 @@
 -- Assumes nothing.
 use mathlib.Core.Path.{_≡_, refl, sym, ap, ap₂, subst, _∙_}
 use mathlib.Core.Bool.{Bool, true, false, false≢true, not, cond, _&&_}
-use mathlib.Core.List.{List, [], _∷_}
+use mathlib.Core.List.{List}
 use Prim.Native.Nat.{ℕ, zero, suc, _+_, _*_, _<_, _≤_}
 use native.Mathlib.Omega.{arith}
 use borrow.Author.Tests.{eq-eqb, eqb-true, le-leb}
@@ -12,7 +12,7 @@ use lib.Dec.{T, eqb, leb, leb→le}
 use lib.ListN.{length, getD}
 use Rattle.lists.specs.Bytes.{Bytes}
 use Rattle.lists.specs.Count.{bit, countFrom, distance}
-use Rattle.lists.proofs.Count.{bit-le, count-same, count-none, distance-self}
+use Rattle.lists.proofs.Count.{bit-le, count-same, count-none, distance-self, distance-differing}
 use Rattle.lists.proofs.Test.{and-left, and-right, truth, truth-of}
 use Rattle.codes.specs.Word.{isCode}
 use Rattle.codes.specs.Nearest.{isNear, nearest, outcomeOf}
@@ -21,20 +21,7 @@ use Rattle.codes.specs.declared.Outcome.the-variants.{Clean, Corrected, 
 use Rattle.codes.proofs.Words.{IsCode, code-of-test, test-of-code}
 use Rattle.codes.proofs.Nearest.{Chosen, chosen, kept, first-chosen, same-chosen, minimum-distance, nearest-length}
 
--- ---- the distance of two words, as a count, and what bounds it
-
-distance-counts : (w c : List ℕ) → length w ≡ length c → distance w c ≡ countFrom (λ i. not (eqb (getD w i 0) (getD c i 0))) 0 (length w)
-unfolding distance
-distance-counts [] c l = refl
-distance-counts (a ∷ w) [] l = absurd (omega arith)
-distance-counts (a ∷ w) (b ∷ c) l =
-    ap (λ (n : ℕ). bit (not (eqb a b)) + n)
-    (distance-counts w c (omega arith)
-    ∙ count-same (λ i. not (eqb (getD w i 0) (getD c i 0))) (λ i. not (eqb (getD (a ∷ w) i 0) (getD (b ∷ c) i 0))) 0 1 (length w)
-    (λ i h.
-    let x : 0 + i ≡ i = omega arith in
-    let y : 1 + i ≡ suc i = omega arith in
-    rw (x, y)))
+-- ---- what bounds the distance of two words
 
 -- a test that passes only where one of three others does
 count-three :
@@ -58,7 +45,7 @@ pub distance-errors :
 unfolding errorCount erasureCount
 distance-errors m w c d k l =
     subst (λ (n : ℕ). n ≤ errorCount m w c + (errorCount m w d + erasureCount m (length w)))
-    (sym (distance-counts c d (sym k ∙ l) ∙ ap (countFrom (λ i. not (eqb (getD c i 0) (getD d i 0))) 0) (sym k)))
+    (sym (distance-differing c d (sym k ∙ l) ∙ ap (countFrom (λ i. not (eqb (getD c i 0) (getD d i 0))) 0) (sym k)))
     (count-three (λ i. not (eqb (getD c i 0) (getD d i 0))) (λ i. not (isErased m i) && not (eqb (getD w i 0) (getD c i 0)))
     (λ i. not (isErased m i) && not (eqb (getD w i 0) (getD d i 0))) (isErased m) 0 (length w)
     (λ i. differ-three (isErased m i) (getD w i 0) (getD c i 0) (getD d i 0)))
@@ -177,7 +164,7 @@ module _ (t : ℕ) (m w : List ℕ) (unmarked : (i : ℕ) → i < length w → i
   unfolding errorCount
   errors-distance c l =
       count-same (λ i. not (isErased m i) && not (eqb (getD w i 0) (getD c i 0))) (λ i. not (eqb (getD w i 0) (getD c i 0))) 0 0 (length w) (λ i h. rw (unmarked (0 + i) (omega arith)))
-      ∙ sym (distance-counts w c (sym l))
+      ∙ sym (distance-differing w c (sym l))
 
   within-near : (c : List ℕ) → length c ≡ length w → isWithin (t + t) m w c ≡ isNear (t + t) t w c
   unfolding isWithin isNear

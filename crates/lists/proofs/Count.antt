@@ -1,5 +1,6 @@
 -- Counts of one test (count-append, count-snoc, count-weave, count-le, count-none), and of two beside each other (count-same, count-flip, count-order,
--- count-split). Distances: of a list from itself (distance-self), and where a test tells at which places two lists may differ (distance-count).
+-- count-split). Distances: of a list from itself (distance-self), as a count (distance-differing), and where a test tells at which places two lists may
+-- differ (distance-count).
 -- Assumes nothing.
 use mathlib.Core.Path.{_≡_, refl, sym, ap, ap₂, subst, _∙_}
 use mathlib.Core.Bool.{Bool, true, false, false≢true, not, _&&_}
@@ -126,18 +127,28 @@ unfolding distance
 distance-self [] = refl
 distance-self (x ∷ xs) = rw (eq-eqb x x refl) (omega (arith, distance-self xs))
 
-count-step : (t : Bool) (x y a b : ℕ) → (t ≡ false → x ≡ y) → a ≤ b → bit (not (eqb x y)) + a ≤ bit t + b
-count-step true x y a b f h = omega (arith, bit-le (not (eqb x y)))
-count-step false x y a b f h = rw (eq-eqb x y (f refl)) (omega arith)
-
--- two lists differ in no more places than pass a test, where they are alike at each place that does not
-pub distance-count :
-    (xs ys : List ℕ) (t : ℕ → Bool) (k : ℕ) → length xs ≡ length ys → ((i : ℕ) → i < length xs → t (k + i) ≡ false → getD xs i 0 ≡ getD ys i 0)
-    → distance xs ys ≤ countFrom t k (length xs)
+-- the distance of two lists counts the places at which they differ
+pub distance-differing : (xs ys : List ℕ) → length xs ≡ length ys → distance xs ys ≡ countFrom (λ i. not (eqb (getD xs i 0) (getD ys i 0))) 0 (length xs)
 unfolding distance
-distance-count [] ys t k e h = omega arith
-distance-count (x ∷ xs) [] t k e h = omega arith
-distance-count (x ∷ xs) (y ∷ ys) t k e h =
-    count-step (t k) x y (distance xs ys) (countFrom t (suc k) (length xs)) (λ z. h 0 (omega arith) (subst (λ (m : ℕ). t m ≡ false) (omega arith) z))
-    (distance-count xs ys t (suc k) (omega arith)
-    (λ i j z. h (suc i) (suc-le-suc j) (subst (λ (m : ℕ). t m ≡ false) (omega arith) z)))
+distance-differing [] ys l = refl
+distance-differing (x ∷ xs) [] l = absurd (omega arith)
+distance-differing (x ∷ xs) (y ∷ ys) l =
+    ap (λ (n : ℕ). bit (not (eqb x y)) + n)
+    (distance-differing xs ys (omega arith)
+    ∙ count-same (λ i. not (eqb (getD xs i 0) (getD ys i 0))) (λ i. not (eqb (getD (x ∷ xs) i 0) (getD (y ∷ ys) i 0))) 0 1 (length xs)
+    (λ i h.
+    let a : 0 + i ≡ i = omega arith in
+    let b : 1 + i ≡ suc i = omega arith in
+    rw (a, b)))
+
+-- so they differ in no more places than pass a test, where they are alike at each place that does not
+pub distance-count :
+    (xs ys : List ℕ) (t : ℕ → Bool) → length xs ≡ length ys → ((i : ℕ) → i < length xs → t i ≡ false → getD xs i 0 ≡ getD ys i 0)
+    → distance xs ys ≤ countFrom t 0 (length xs)
+distance-count xs ys t e h =
+    subst (λ (n : ℕ). n ≤ countFrom t 0 (length xs)) (sym (distance-differing xs ys e))
+    (count-order (λ i. not (eqb (getD xs i 0) (getD ys i 0))) t 0 (length xs) (λ i l. passes (t i) (getD xs i 0) (getD ys i 0) (h i (omega arith))))
+  where
+    passes : (b : Bool) (x y : ℕ) → (b ≡ false → x ≡ y) → T (not (eqb x y)) → T b
+    passes true x y alike d = tt
+    passes false x y alike d = subst (λ (c : Bool). T (not c)) (eq-eqb x y (alike refl)) d

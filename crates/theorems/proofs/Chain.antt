@@ -113,8 +113,8 @@ module _ {previous : Previous} (main : List ℕ) (first info : ℕ) (ok : Accept
       let m = column-length made j in
       subst (λ (c : ℕ). distance (columnOf (rowsRepaired xs ms) j) (columnOf made j) ≤ c)
       (ap (countFrom (λ i. far (recordingRow i)) 0) n ∙ count-recording far 16 refl)
-      (distance-count (columnOf (rowsRepaired xs ms) j) (columnOf made j) (λ i. far (recordingRow i)) 0 (n ∙ sym m)
-      (λ i l f. column-alike j i hj (omega (arith, n)) (ap (λ (x : ℕ). far (recordingRow x)) (omega arith) ∙ f)))
+      (distance-count (columnOf (rowsRepaired xs ms) j) (columnOf made j) (λ i. far (recordingRow i)) (n ∙ sym m)
+      (λ i l f. column-alike j i hj (omega (arith, n)) f))
 
   column-bytes : (j : ℕ) → Bytes (columnOf (rowsRepaired xs ms) j)
   unfolding columnOf

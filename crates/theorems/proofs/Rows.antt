@@ -50,8 +50,7 @@ module _ {bs ys : List ℕ} (laid : LaidBlock bs ys) (xs : List ℕ) (hx : Bytes
   -- f of the row repair is the row's unknown words,
   erasures≡unknown : erasureCount marks rowSize ≡ unknownIn xs r
   unfolding erasureCount unknownIn
-  erasures≡unknown =
-      count-same (isErased marks) (λ i. unknownAt xs (r * rowSize + i)) 0 0 rowSize (λ i l. marked (0 + i) (omega arith)) ∙ sym (count-from (unknownAt xs) (r * rowSize) rowSize)
+  erasures≡unknown = count-same (isErased marks) (unknownAt xs) 0 (r * rowSize) rowSize (λ i l. ap (isErased marks) (omega arith) ∙ marked i l)
 
   read-length : length read ≡ rowSize
   read-length = ap length (read-row xs r hr) ∙ length-tabulateFrom (readAt xs) (r * rowSize) rowSize
