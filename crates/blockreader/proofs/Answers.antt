@@ -26,13 +26,13 @@ pub record Left (xs block marks main : List ℕ) (r : BlockRead) (b e m : List �
 
 -- what the contract asks, clause by clause: number and frame follow from the answer
 pub clauses :
-    (xs block marks main : List ℕ) (r : BlockRead) (b e m : List ℕ) → Left xs block marks main r b e m
+    {xs block marks main : List ℕ} {r : BlockRead} {b e m : List ℕ} → Left xs block marks main r b e m
     → (r ≡ blockReadAnswer xs (length block) (length marks) (length main))
     × ((blockReadNumber r ≡ blockReadRefusal xs (length block) (length marks) (length main))
     × ((blockReadFrame r ≡ blockReadRefusedFrame xs (length block) (length marks) (length main))
     × ((b ≡ blockReadBlock xs block (length marks) (length main))
     × ((e ≡ blockReadErasures xs (length block) marks (length main)) × (m ≡ blockReadMain xs (length block) (length marks) main)))))
-clauses xs block marks main r b e m h = (
+clauses {xs} {block} {marks} {main} h = (
   h .answer,
   (
     ap blockReadNumber (h .answer) ∙ block-read-number xs (length block) (length marks) (length main),
@@ -71,7 +71,8 @@ module _ (xs block marks main : List ℕ) where
     unfolding blockReadAnswer blockReadBlock blockReadErasures blockReadMain
     taken hm read marked after final u s r a e g eu es er ea ef w =
         record {
-          answer = w ∙ ap₂ (withSums r) eu es ∙ ap (λ (x : Repaired). withSums x (sectorSum unknownTally xs 0 16) (sectorSum syncTally xs 0 16)) (er ∙ ap₂ (λ (x y : List ℕ). repairAnswer x y (length main)) e g)
+          answer = w ∙ ap₂ (withSums r) eu es
+              ∙ ap (λ (x : Repaired). withSums x (sectorSum unknownTally xs 0 16) (sectorSum syncTally xs 0 16)) (er ∙ ap₂ (λ (x y : List ℕ). repairAnswer x y (length main)) e g)
               ∙ rw fit;
           block-is = ea ∙ ap₂ (λ (x y : List ℕ). blockAfter x y (length main)) e g ∙ rw fit;
           erasures-are = g ∙ rw fit;

@@ -24,6 +24,7 @@ use Rattle.codes.specs.declared.Outcome.the-variants.{Clean, Corrected, Uncorre
 use Rattle.codes.proofs.Division.{Code, ten-roots, sixteen-roots}
 use Rattle.codes.proofs.Erasures.{nearest-unmarked, outcome-unmarked}
 use Rattle.codes.proofs.Decision.{Repaired, overfull, clean, corrected, uncorrectable}
+use Rattle.layout.specs.Lengths.{rowCount, rowSize, innerSize, outerSize}
 use Rattle.multiples.specs.Inner.{high, low}
 use Rattle.division.specs.Inner.{remainderOf, unpacked}
 use Rattle.division.proofs.Division.{zeros-place}
@@ -37,10 +38,10 @@ pub record Shape (n p : ℕ) : Type 0 where
   pub short : n ≤ 255
 
 -- the rows and the columns of an ECC Block (clause 18)
-pub row-shape : Shape 182 10
+pub row-shape : Shape rowSize innerSize
 row-shape = record { roots = ten-roots; few = omega arith; holds = omega arith; short = omega arith }
 
-pub column-shape : Shape 208 16
+pub column-shape : Shape rowCount outerSize
 column-shape = record { roots = sixteen-roots; few = omega arith; holds = omega arith; short = omega arith }
 
 module _ {n p : ℕ} (shape : Shape n p) (w : List ℕ) (size : length w ≡ n) (hw : Bytes w) where

@@ -112,7 +112,9 @@ loop-again c =
     let b : List ℕ → List ℕ = λ ys. take (sectorSize * l .k + sectorSize - sectorSize * l .k) (drop (sectorSize * l .k) ys) in
     let hk : l .k < 16 = omega arith in
     let e4 : sectorStream * l .k + sectorRead - sectorStream * l .k ≡ sectorRead = omega arith in
-    let e2 : sectorSize * l .k + sectorSize - sectorSize * l .k ≡ sectorSize = omega arith in
+    let from = sectorSize * l .k in
+    let size = from + sectorSize - from in
+    let e2 : size ≡ sectorSize = omega arith in
     let lb : length (l .block) ≡ blockSize = l .inv .1 .same ∙ s .pre .1 in
     let le : length (l .erasures) ≡ blockSize = l .inv .2 .same ∙ s .pre .2 in
     let e : d ≡ sectorPart xs (l .k) = ap (λ (n : ℕ). take n (drop (sectorStream * l .k) xs)) e4 in
@@ -122,12 +124,12 @@ loop-again c =
     let oe = sized (l .erasures) le in
     let r = read .read-sector-with .ensures in
     let m = sums-next xs d (l .k) hk (s .pre .0) e (l .s) (c .with .result) (length (b (l .block))) (length (b (l .erasures))) _ ob oe (r .0) (c .with .ensures) in
-    let x : sectorSize * l .k + sectorSize ≡ sectorSize * (l .k + 1) = omega arith in (
+    let x : from + sectorSize ≡ sectorSize * (l .k + 1) = omega arith in (
       omega arith,
-      upto-put (readAt xs) (s .args .block .now) (l .block) (read .read-sector-with .last .1 .1 .1 .1 .1 .0) (sectorSize * l .k) sectorSize (sectorSize * l .k + sectorSize - sectorSize * l .k) (sectorSize * (l .k + 1)) e2 (sym x) (omega (arith, lb))
+      upto-put (readAt xs) (s .args .block .now) (l .block) (read .read-sector-with .last .1 .1 .1 .1 .1 .0) from sectorSize size (sectorSize * (l .k + 1)) e2 (sym x) (omega (arith, lb))
           (ap length (r .1 .1 .0) ∙ sector-length xs d (l .k) hk (s .pre .0) e (b (l .block)) _ ob oe)
           (λ i h. ap (λ (z : List ℕ). getD z i 0) (r .1 .1 .0) ∙ sector-bytes xs d (l .k) hk (s .pre .0) e (b (l .block)) _ ob oe i h) (l .inv .1),
-      upto-put (markAt xs) (s .args .erasures .now) (l .erasures) (read .read-sector-with .last .1 .1 .1 .1 .1 .1 .0) (sectorSize * l .k) sectorSize (sectorSize * l .k + sectorSize - sectorSize * l .k) (sectorSize * (l .k + 1)) e2 (sym x) (omega (arith, le))
+      upto-put (markAt xs) (s .args .erasures .now) (l .erasures) (read .read-sector-with .last .1 .1 .1 .1 .1 .1 .0) from sectorSize size (sectorSize * (l .k + 1)) e2 (sym x) (omega (arith, le))
           (ap length (r .1 .1 .1) ∙ erasures-length xs d (l .k) hk (s .pre .0) e _ (b (l .erasures)) ob oe)
           (λ i h. ap (λ (z : List ℕ). getD z i 0) (r .1 .1 .1) ∙ sector-erasures xs d (l .k) hk (s .pre .0) e _ (b (l .erasures)) ob oe i h) (l .inv .2),
       omega (arith, m .0, unknown-le (sectorPart xs (l .k)), l .inv .3),

@@ -4,6 +4,7 @@ use native.Mathlib.Omega.{arith}
 use lib.ListN.{length}
 use lib.Seq.{length-take-le}
 use borrow.Author.Needs.{needs}
+use Rattle.layout.specs.Lengths.{rowCount}
 use Rattle.reedsolomon.proofs.column.column_mend.Statement.{statement}
 use Rattle.reedsolomon.proofs.column.column_mend.Tie as tie
 
@@ -30,7 +31,7 @@ mend-requires c κs =
     let start = shared .before .before .before in
     let s = start .args .t3 in
     let e : length s ≡ 16 = search needs in
-    let m : length (start .args .bytes) ≡ 208 = search needs in
+    let m : length (start .args .bytes) ≡ rowCount = search needs in
     (start .pre .0, omega arith, e, λ j l. omega (arith, start .pre .2 j l))
 
 returns : tie.Need-returns

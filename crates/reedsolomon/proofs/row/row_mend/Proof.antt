@@ -4,6 +4,7 @@ use native.Mathlib.Omega.{arith}
 use lib.ListN.{length}
 use lib.Seq.{length-take-le}
 use borrow.Author.Needs.{needs}
+use Rattle.layout.specs.Lengths.{rowSize}
 use Rattle.reedsolomon.proofs.row.row_mend.Statement.{statement}
 use Rattle.reedsolomon.proofs.row.row_mend.Tie as tie
 
@@ -30,7 +31,7 @@ mend-requires c κs =
     let start = shared .before .before .before in
     let s = start .args .t3 in
     let e : length s ≡ 10 = search needs in
-    let m : length (start .args .bytes) ≡ 182 = search needs in
+    let m : length (start .args .bytes) ≡ rowSize = search needs in
     (start .pre .0, omega arith, e, λ j l. omega (arith, start .pre .2 j l))
 
 returns : tie.Need-returns
