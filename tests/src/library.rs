@@ -28,6 +28,15 @@ pub fn correct_row(row: &mut [u8], erasures: &[u8]) -> u32 {
     unsafe { chamanzil_correct_row(row.as_mut_ptr(), row.len(), erasures.as_ptr(), erasures.len()) }
 }
 
+/// What the light repair answers: there is a code row within two bytes, and the row is that now,
+pub const REPAIRED: u32 = 0;
+/// or there is none, and the row is as it was.
+pub const HEAVIER: u32 = 258;
+
+pub fn correct_light_row(row: &mut [u8]) -> u32 {
+    unsafe { chamanzil_correct_light_row(row.as_mut_ptr(), row.len()) }
+}
+
 pub fn correct_column(column: &mut [u8]) -> u32 {
     unsafe { chamanzil_correct_column(column.as_mut_ptr(), column.len()) }
 }

@@ -2,10 +2,12 @@
 mod block;
 mod blocks_test;
 mod codes_test;
+mod course_test;
 mod damage;
 mod erasures_test;
 mod gf;
 mod library;
+mod light_test;
 mod papers;
 mod random;
 mod readers_test;
@@ -37,6 +39,7 @@ fn round(report: &mut Report, seed: u64) {
     codes_test::parities(report, &mut random, 2_000);
     codes_test::repairs(report, &mut random, 5_000);
     codes_test::erasures(report, &mut random, 1_000);
+    light_test::all(report, &mut random, 14_500);
     let (tables, reader) = (Tables::new(), Reader::new());
     blocks_test::maker(report, &mut random, 1_000);
     blocks_test::maker_refusals(report, &mut random);
@@ -66,6 +69,7 @@ fn main() -> ExitCode {
     let mut seed = words.get(1).map_or(1, |w| w.parse().expect("a seed is a number"));
     let mut report = Report::new();
     papers::all(&mut report);
+    course_test::light_repair(&mut report);
     tidy::all(&mut report);
     loop {
         println!("seed {seed}");

@@ -42,6 +42,11 @@ impl Code {
         Code::new(182, 10, 5)
     }
 
+    /// Rows by the rule of the light repair (document 02, request 13).
+    pub fn light_row() -> Code {
+        Code::new(182, 10, 2)
+    }
+
     pub fn column() -> Code {
         Code::new(208, 16, 8)
     }
@@ -246,6 +251,18 @@ impl Code {
             word[places[k]] = rows[k - 1][n];
         }
         assert!(self.is_code(&word) && places.iter().all(|&p| word[p] != 0));
+        word
+    }
+
+    /// The word with these syndromes that is 0 but for its parity: solved by elimination.
+    pub fn with_syndromes(&self, due: &[u8]) -> Vec<u8> {
+        let (f, n) = (&self.field, self.roots);
+        let equation = |i: usize| (0..n).map(|k| f.alpha(i * (n - 1 - k))).chain([due[i]]).collect();
+        let mut rows: Vec<Vec<u8>> = (0..n).map(equation).collect();
+        solve(f, &mut rows);
+        let mut word = vec![0; self.length - n];
+        word.extend(rows.iter().map(|row| row[n]));
+        assert!(self.syndromes(&word) == due);
         word
     }
 }

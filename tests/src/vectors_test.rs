@@ -149,6 +149,28 @@ fn rows(report: &mut Report) {
     report.end();
 }
 
+/// Rows of the light repair, by the second decoder and by the library: the row, what becomes of it, and the row after.
+fn light_rows(report: &mut Report) {
+    report.begin("vectors: light repair of rows");
+    let (code, list) = (Code::light_row(), text("light.txt"));
+    for line in list.lines() {
+        let words: Vec<&str> = line.split(' ').collect();
+        let [row, fate, after] = words[..] else { panic!("{line}") };
+        let (row, after) = (bytes(row), bytes(after));
+        let (due, near) = match fate {
+            "repaired" => (library::REPAIRED, Some(&after)),
+            "heavier" => (library::HEAVIER, None),
+            other => panic!("{other}"),
+        };
+        report.check(code.nearest(&row).as_ref() == near, || format!("{line}: the second decoder"));
+        let mut ours = row;
+        let answer = library::correct_light_row(&mut ours);
+        report.check(answer == due && ours == after, || format!("{line}: {answer}"));
+    }
+    report.check(list.lines().count() == 40, || "40 rows".into());
+    report.end();
+}
+
 /// Streams with flipped bits. The sheets are those of document 02's vectors, with marks: of the earlier streams these changed the line of burst20000, whose rows of
 /// nearly all unknown words are near the row of zeros. The later ones were made of b1's stream for the number of their rows with 2e + f over 10.
 fn damaged(report: &mut Report, reader: &Reader) {
@@ -264,6 +286,7 @@ pub fn all(report: &mut Report) {
     far_out(report, &t);
     trial14(report, &t);
     rows(report);
+    light_rows(report);
     damaged(report, &reader);
     closings(report, &t);
     run_written(report, &t);

@@ -12,3 +12,6 @@ pub mod Values
 pub mod Marked
 pub mod Mended
 pub mod Decision
+pub mod Light
+pub mod WrongBytes
+pub mod Formulas

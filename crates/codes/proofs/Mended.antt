@@ -97,13 +97,13 @@ found-below none n l = tt
 found-below (hit {r = r} e f) n l = (l, found-below f n (omega arith))
 found-below (miss e f) n l = found-below f n (omega arith)
 
-change-first : (a : ℕ) (r : List ℕ) (k v : ℕ) → k ≡ length r → change (a ∷ r) k v ≡ add a v ∷ r
+pub change-first : (a : ℕ) (r : List ℕ) (k v : ℕ) → k ≡ length r → change (a ∷ r) k v ≡ add a v ∷ r
 unfolding change
 change-first a r k v e =
     let i : suc (length r) - suc k ≡ 0 = omega arith in
     ap (λ (i : ℕ). set (a ∷ r) i (add (getD (a ∷ r) i 0) v)) i
 
-change-rest : (a : ℕ) (r : List ℕ) (k v : ℕ) → k < length r → change (a ∷ r) k v ≡ a ∷ change r k v
+pub change-rest : (a : ℕ) (r : List ℕ) (k v : ℕ) → k < length r → change (a ∷ r) k v ≡ a ∷ change r k v
 unfolding change
 change-rest a r k v l =
     let i : suc (length r) - suc k ≡ suc (length r - suc k) = omega arith in

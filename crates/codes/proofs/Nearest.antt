@@ -179,7 +179,7 @@ pub record Near (p t : ℕ) (w c : List ℕ) : Type 0 where
   pub close : distance w c ≤ t
 
 module _ (p t : ℕ) (w : List ℕ) (hw : Bytes w) where
-  test-near : (c : List ℕ) → Bytes c → length c ≡ length w → T (isNear p t w c) → Near p t w c
+  pub test-near : (c : List ℕ) → Bytes c → length c ≡ length w → T (isNear p t w c) → Near p t w c
   unfolding isNear
   test-near c k l h = record {
     bytes = k;
@@ -188,7 +188,7 @@ module _ (p t : ℕ) (w : List ℕ) (hw : Bytes w) where
     close = leb→le (distance w c) t (and-right (isCode p c) (leb (distance w c) t) h);
   }
 
-  near-test : (c : List ℕ) → Near p t w c → isNear p t w c ≡ true
+  pub near-test : (c : List ℕ) → Near p t w c → isNear p t w c ≡ true
   unfolding isNear
   near-test c n = rw (truth (isCode p c) (test-of-code p c (n .code)), le-leb (distance w c) t (n .close))
 

@@ -10,8 +10,10 @@ use lib.ListN.{length, getD, set, take, drop}
 use Rattle.lists.specs.Bytes.{Bytes}
 use Rattle.lists.specs.Count.{bit, countFrom}
 use Rattle.lists.specs.Fill.{tabulate}
+use Rattle.lists.specs.Test.{below}
 use Rattle.field.specs.Field.{add, mul, pow, inverse}
 use Rattle.codes.specs.Erasures.{isErased}
+use Rattle.codes.specs.declared.WrongByte.{WrongByte}
 
 -- the syndromes as a function, from the list of them
 abbrev pub at : List ℕ → ℕ → ℕ
@@ -148,3 +150,56 @@ mendFrom S ks j (suc n) w = mendFrom S ks (suc j) n (change w (getD ks j 0) (err
 -- a word less the errors at the places ks
 unfoldable pub mended : (ℕ → ℕ) → List ℕ → List ℕ → List ℕ
 mended S ks w = mendFrom S ks 0 (length ks) w
+
+-- ---- the light repair: wrong bytes and their sums
+
+-- sum i of wrong bytes: each value times the i-th power of its locator
+unfoldable pub sumOf : List WrongByte → ℕ → ℕ
+sumOf [] i = 0
+sumOf (e ∷ es) i = add (mul (e .value) (pow (pow 2 (e .place)) i)) (sumOf es i)
+
+-- the sums S 0 .. S (p-1) are those of wrong bytes
+abbrev pub SumsOf : (ℕ → ℕ) → ℕ → List WrongByte → Type 0
+SumsOf S p es = (i : ℕ) → i < p → S i ≡ sumOf es i
+
+-- each stands at a place of a word of n bytes
+unfoldable pub Inside : ℕ → List WrongByte → Type 0
+Inside n [] = Unit {0}
+Inside n (e ∷ es) = (e .place < n) × (e .value < 256) × Inside n es
+
+-- they explain p sums of a word of n bytes
+pub record Explains (S : ℕ → ℕ) (p n : ℕ) (es : List WrongByte) : Type 0 where
+  pub inside : Inside n es
+  pub sums : SumsOf S p es
+
+-- the wrong bytes of a word of n bytes, from its first byte on: each stands after the one before it, and none has the value 0
+unfoldable pub InOrder : ℕ → List WrongByte → Type 0
+InOrder n [] = Unit {0}
+InOrder n (e ∷ es) = (e .place < n) × (0 < e .value) × (e .value < 256) × InOrder (e .place) es
+
+-- no m wrong bytes explain p sums of a word of n bytes
+abbrev pub Unexplained : (ℕ → ℕ) → ℕ → ℕ → ℕ → Type 0
+Unexplained S p n m = (es : List WrongByte) → length es ≡ m → InOrder n es → SumsOf S p es → ⊥
+
+-- a word without its wrong bytes
+unfoldable pub withoutWrong : List WrongByte → List ℕ → List ℕ
+withoutWrong [] w = w
+withoutWrong (e ∷ es) w = withoutWrong es (change w (e .place) (e .value))
+
+-- x² + a x + b is 0 at x
+abbrev pub isLocator : ℕ → ℕ → ℕ → Bool
+isLocator a b x = eqb (mul x (add x a)) b
+
+-- each of p sums from the third on is a times the one before it and b times the one before that
+unfoldable pub follows : (ℕ → ℕ) → ℕ → ℕ → ℕ → Bool
+follows S p a b = below (p - 2) (λ i. eqb (S (i + 2)) (add (mul a (S (i + 1))) (mul b (S i))))
+
+-- the two-by-two equations a S1 + b S0 = S2 and a S2 + b S1 = S3, by Cramer's rule: their determinant, a, and b
+abbrev pub determinant : (ℕ → ℕ) → ℕ
+determinant S = add (mul (S 1) (S 1)) (mul (S 0) (S 2))
+
+abbrev pub cramerA : (ℕ → ℕ) → ℕ
+cramerA S = mul (add (mul (S 1) (S 2)) (mul (S 0) (S 3))) (inverse (determinant S))
+
+abbrev pub cramerB : (ℕ → ℕ) → ℕ
+cramerB S = mul (add (mul (S 2) (S 2)) (mul (S 1) (S 3))) (inverse (determinant S))

@@ -120,7 +120,7 @@ alpha = omega arith
 pub alpha-lt : (n : ℕ) → pow 2 n < 256
 alpha-lt n = pow-lt 2 alpha n
 
-alpha-nonzero : (n : ℕ) → pow 2 n ≢ 0
+pub alpha-nonzero : (n : ℕ) → pow 2 n ≢ 0
 alpha-nonzero n = pow-nonzero 2 alpha (omega arith) n
 
 -- the powers of α below the 255th differ

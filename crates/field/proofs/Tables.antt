@@ -38,7 +38,7 @@ module _ (t : List ℕ) (h : LogTable t) where
 
 -- ---- the rule fixes each of the 768 entries
 
-same-logarithm : (i j : ℕ) → i < 255 → j < 255 → pow 2 i ≡ pow 2 j → i ≡ j
+pub same-logarithm : (i j : ℕ) → i < 255 → j < 255 → pow 2 i ≡ pow 2 j → i ≡ j
 same-logarithm i j hi hj e =
     dite (decLt i j) (λ l. absurd (powers-differ i j l hj e))
     (λ m. dite (decLt j i) (λ l. absurd (powers-differ j i l hi (sym e))) (λ n. omega (arith, m, n)))

@@ -1,5 +1,6 @@
-// GF(256): product, power and inverse (ECMA-268, 16.2 and clause 18; document 01, 'The block'). The table of logarithms is lent, so that no call makes it anew.
+// GF(256): product, quotient, inverse, logarithm and power (ECMA-268, 16.2 and clause 18; document 01, 'The block'). The table of logarithms is lent, so that no call makes it anew.
 ghost use mathlib.Core.Path.{_≡_};
+ghost use Prim.Native.Nat.{_<_};
 ghost use Rattle.field.specs.Field.{mul, pow, inverse};
 ghost use Rattle.field.specs.Inner.{LogTable};
 
@@ -44,6 +45,23 @@ pub fn inverse_of(logs: &[u8; 768], a: u8) -> u8
     }
     let i = bytes::index(logs[bytes::index(a)]);
     logs[256 + (255 - i)]
+}
+
+// a over b: a times the inverse of b.
+pub fn quotient(logs: &[u8; 768], a: u8, b: u8) -> u8
+    requires { ⌜ LogTable (now logs) ⌝ }
+    ensures { λ r. ⌜ r ≡ mul a (inverse b) ⌝ }
+{
+    product(logs, a, inverse_of(logs, b))
+}
+
+// The logarithm of an element other than 0: the one power of α below 255 that is the element.
+pub fn logarithm(logs: &[u8; 768], a: u8) -> u8
+    requires { ⌜ LogTable (now logs) × (0 < a) ⌝ }
+    ensures { λ r. ⌜ pow 2 r ≡ a ⌝ }
+    ensures { λ r. ⌜ r < 255 ⌝ }
+{
+    logs[bytes::index(a)]
 }
 
 // a to the power n, along the bits of n from the lowest on: where the bit is one the base is multiplied in, and for the next bit it is squared. At the head of

@@ -28,7 +28,7 @@ use Rattle.layout.specs.Lengths.{rowCount, rowSize, innerSize, outerSize}
 use Rattle.multiples.specs.Inner.{high, low}
 use Rattle.division.specs.Inner.{remainderOf, unpacked}
 use Rattle.division.proofs.Division.{zeros-place}
-use Rattle.reedsolomon.proofs.Left.{syndromes-left}
+use Rattle.syndromes.proofs.Left.{syndromes-left}
 
 -- words of n bytes with p roots
 pub record Shape (n p : ℕ) : Type 0 where

@@ -32,7 +32,7 @@ fn column_syndromes(logs: &[u8; 768], table: &[u64; 512], bytes: [u8; ROW_COUNT]
     ensures { λ r. ⌜ r ≡ tabulate (syndrome bytes) 16 ⌝ }
 {
     let left = division::remainder_of(table, &bytes, 16);
-    crate::syndromes::syndromes16(logs, left)
+    syndromes::syndromes16(logs, left)
 }
 
 // A locator, lowest coefficient first, as far as its degree.
@@ -104,7 +104,7 @@ pub fn correct_column_from(
     ensures { λ r. ⌜ r .outcome ≡ outcomeOf 16 8 (column .bytes) ⌝ }
 {
     let bytes = column.bytes;
-    if crate::syndromes::all_zero(&syndromes) {
+    if syndromes::all_zero(&syndromes) {
         return Column {
             bytes,
             outcome: Outcome::Clean,
@@ -113,7 +113,7 @@ pub fn correct_column_from(
     let places = column_search(logs, syndromes);
     let near = column_mend(logs, bytes, syndromes, places);
     let again = column_syndromes(logs, table, near);
-    if crate::syndromes::all_zero(&again) {
+    if syndromes::all_zero(&again) {
         return Column {
             bytes: near,
             outcome: Outcome::Corrected,

@@ -6,7 +6,6 @@ mod locate;
 mod mend;
 mod row;
 mod search;
-mod syndromes;
 
 pub use codes::Outcome;
 pub use column::Column;

@@ -32,7 +32,7 @@ fn row_syndromes(logs: &[u8; 768], table: &[u64; 512], bytes: [u8; ROW_SIZE]) ->
     ensures { λ r. ⌜ r ≡ tabulate (syndrome bytes) 10 ⌝ }
 {
     let left = division::remainder_of(table, &bytes, 10);
-    crate::syndromes::syndromes10(logs, left)
+    syndromes::syndromes10(logs, left)
 }
 
 // A locator, lowest coefficient first, as far as its degree.
@@ -124,7 +124,7 @@ pub fn correct_row_from(
             outcome: Outcome::Uncorrectable,
         };
     }
-    if crate::syndromes::all_zero(&syndromes) {
+    if syndromes::all_zero(&syndromes) {
         return Row {
             bytes,
             outcome: Outcome::Clean,
@@ -133,7 +133,7 @@ pub fn correct_row_from(
     let places = row_search(logs, erasures, (10 - marked) / 2, syndromes);
     let near = row_mend(logs, bytes, syndromes, places);
     let again = row_syndromes(logs, table, near);
-    if crate::syndromes::all_zero(&again) {
+    if syndromes::all_zero(&again) {
         return Row {
             bytes: near,
             outcome: Outcome::Corrected,

@@ -19,7 +19,7 @@ use Rattle.reedsolomon.proofs.column.correct_column_from.Lts as lts
 use Rattle.reedsolomon.proofs.column.column_mend.Reads as mend-reads
 use Rattle.reedsolomon.proofs.column.column_search.Reads as search-reads
 use Rattle.reedsolomon.proofs.column.column_syndromes.Reads as syndromes-reads
-use Rattle.reedsolomon.proofs.syndromes.all_zero.Reads as all-zero-reads
+use Rattle.syndromes.proofs.all_zero.Reads as all-zero-reads
 
 -- the column that comes in
 abbrev Start : Type 0

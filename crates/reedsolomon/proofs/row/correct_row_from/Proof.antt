@@ -20,7 +20,7 @@ use Rattle.reedsolomon.proofs.erasures.count_erasures.Reads as count-er
 use Rattle.reedsolomon.proofs.row.row_mend.Reads as row-mend-reads
 use Rattle.reedsolomon.proofs.row.row_search.Reads as row-search-reads
 use Rattle.reedsolomon.proofs.row.row_syndromes.Reads as row-syndromes-reads
-use Rattle.reedsolomon.proofs.syndromes.all_zero.Reads as all-zero-reads
+use Rattle.syndromes.proofs.all_zero.Reads as all-zero-reads
 
 -- the row that comes in
 abbrev Start : Type 0

@@ -1,15 +1,14 @@
--- `syndromes::syndromes16` meets its contract. Assumes nothing.
+-- `syndromes::syndromes10` meets its contract. Assumes nothing.
 use mathlib.Core.Path.{ap, _∙_}
 use mathlib.Core.List.{List}
 use Prim.Native.Nat.{ℕ}
 use native.Mathlib.Omega.{arith}
 use Rattle.lists.specs.Fill.{tabulate}
 use Rattle.codes.specs.Word.{syndrome}
-use Rattle.division.proofs.Unpacked.{unpacked-take}
-use Rattle.reedsolomon.proofs.Left.{syndromes-none}
+use Rattle.syndromes.proofs.Left.{syndromes-none}
 use borrow.Author.Needs.{needs}
-use Rattle.reedsolomon.proofs.syndromes.syndromes16.Statement.{statement}
-use Rattle.reedsolomon.proofs.syndromes.syndromes16.Tie as tie
+use Rattle.syndromes.proofs.syndromes10.Statement.{statement}
+use Rattle.syndromes.proofs.syndromes10.Tie as tie
 
 is-zero-requires : tie.Need-is-zero-requires
 is-zero-requires c κs = search needs
@@ -17,10 +16,10 @@ is-zero-requires c κs = search needs
 returns : tie.Need-returns
 returns c =
     let left = c .before .before .args .left in
-    syndromes-none 16 (left .high) (left .low) (omega arith) (c .before .is-zero .result) (c .before .is-zero .ensures) (c .if1 .taken)
+    syndromes-none 10 (left .high) (left .low) (omega arith) (c .before .is-zero .result) (c .before .is-zero .ensures) (c .if1 .taken)
 
-unpack-requires : tie.Need-unpack-requires
-unpack-requires c κs = search needs
+unpack10-requires : tie.Need-unpack10-requires
+unpack10-requires c κs = search needs
 
 slice-aggregate-syndromes-into : tie.Need-slice-aggregate-syndromes-into
 slice-aggregate-syndromes-into c = search needs
@@ -34,15 +33,15 @@ syndromes-into-requires c κs = search needs
 returns-2 : tie.Need-returns-2
 returns-2 c =
     c .before .syndromes-into .ensures
-    ∙ ap (λ (b : List ℕ). tabulate (syndrome b) 16) (c .before .before .before .before .unpack .ensures ∙ unpacked-take _ _)
+    ∙ ap (λ (b : List ℕ). tabulate (syndrome b) 10) (c .before .before .before .before .unpack10 .ensures)
 
-pub syndromes16-spec : {M : Type 1} → statement M
-syndromes16-spec =
+pub syndromes10-spec : {M : Type 1} → statement M
+syndromes10-spec =
     tie.close
     (tie.spec
     is-zero-requires
     returns
-    unpack-requires
+    unpack10-requires
     slice-aggregate-syndromes-into
     slice-aggregate-syndromes-into-2
     syndromes-into-requires

@@ -9,8 +9,8 @@ use lib.Dec.{eqb}
 use lib.ListN.{length, getD}
 use Rattle.lists.proofs.Test.{truth, truth-of, below-all, below-false}
 use Rattle.codes.specs.Word.{allZero}
-use Rattle.reedsolomon.proofs.syndromes.all_zero.Statement.{statement}
-use Rattle.reedsolomon.proofs.syndromes.all_zero.Tie as tie
+use Rattle.syndromes.proofs.all_zero.Statement.{statement}
+use Rattle.syndromes.proofs.all_zero.Tie as tie
 
 abbrev Inv-loop : tie.InvT-loop
 Inv-loop syndromes k₀ k = (i : ℕ) → i < k → _≡_ {A = ℕ} (getD syndromes i 0) 0

@@ -1,4 +1,5 @@
-// The syndromes of a word (document 01: its sums at the roots), over words of any length and any number of roots.
+// The syndromes of a word (document 01: its sums at the roots), over words of any length and any number of roots: each by itself, as the value at a root, and
+// those of what the generator leaves of a word, which are the word's own.
 ghost use mathlib.Core.Path.{_≡_};
 ghost use Prim.Native.Nat.{_≤_};
 ghost use lib.ListN.{length, take};
@@ -23,7 +24,7 @@ fn value_of(logs: &[u8; 768], word: &[u8], x: u8) -> u8
 }
 
 // The syndromes of a word, as many as `out` has places.
-pub(crate) fn syndromes_into(logs: &[u8; 768], word: &[u8], out: &mut [u8])
+pub fn syndromes_into(logs: &[u8; 768], word: &[u8], out: &mut [u8])
     requires { ⌜ LogTable (now logs) ⌝ }
     requires { ⌜ length (now out) ≤ 255 ⌝ }
     ensures { λ r. ⌜ now (out .exit) ≡ tabulate (syndrome (now (word .entry))) (length (now (out .entry))) ⌝ }

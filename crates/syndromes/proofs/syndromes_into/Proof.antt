@@ -6,8 +6,8 @@ use Rattle.field.specs.Field.{pow}
 use Rattle.lists.proofs.Fill.{Upto, upto-none, upto-more, upto-all}
 use Rattle.codes.specs.Word.{valueAt, syndrome}
 use native.Mathlib.Omega.{arith}
-use Rattle.reedsolomon.proofs.syndromes.syndromes_into.Statement.{statement}
-use Rattle.reedsolomon.proofs.syndromes.syndromes_into.Tie as tie
+use Rattle.syndromes.proofs.syndromes_into.Statement.{statement}
+use Rattle.syndromes.proofs.syndromes_into.Tie as tie
 
 abbrev Inv-loop : tie.InvT-loop
 Inv-loop logs word out₀ i₀ k₀ out i k = (i ≤ length out₀) × (k ≡ i) × Upto (syndrome word) out₀ out i

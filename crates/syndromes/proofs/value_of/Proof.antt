@@ -6,8 +6,8 @@ use Rattle.field.specs.Field.{add}
 use Rattle.codes.specs.Word.{valueFrom, valueAt}
 use Rattle.codes.proofs.Words.{valueFrom-next, valueFrom-end}
 use native.Mathlib.Omega.{arith}
-use Rattle.reedsolomon.proofs.syndromes.value_of.Statement.{statement}
-use Rattle.reedsolomon.proofs.syndromes.value_of.Tie as tie
+use Rattle.syndromes.proofs.value_of.Statement.{statement}
+use Rattle.syndromes.proofs.value_of.Tie as tie
 
 abbrev Inv-loop : tie.InvT-loop
 Inv-loop logs word x v₀ i₀ v i = (i ≤ length word) × (valueFrom x v (drop i word) ≡ valueAt word x)

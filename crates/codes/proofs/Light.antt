@@ -1,0 +1,63 @@
+-- The light repair, over length, number of roots and number of wrong bytes: it says 'Repaired' exactly where a code word is within t bytes (near-repaired,
+-- repaired-near), and 'Heavier' exactly where none is (none-heavier, heavier-none). Where it repairs, the word is what the repair within more bytes gives
+-- (light-general).
+-- Assumes nothing.
+use mathlib.Core.Path.{_≡_, refl, sym, ap, _∙_}
+use mathlib.Core.Bool.{Bool, false≢true, cond}
+use mathlib.Core.List.{List}
+use Prim.Native.Nat.{ℕ, _+_, _≤_}
+use native.Mathlib.Omega.{arith}
+use lib.ListN.{length}
+use Rattle.lists.specs.Bytes.{Bytes}
+use Rattle.lists.proofs.Test.{truth}
+use Rattle.codes.specs.Nearest.{isNear, nearest}
+use Rattle.codes.specs.Light.{lightOutcome}
+use Rattle.codes.specs.declared.LightOutcome.{LightOutcome}
+use Rattle.codes.specs.declared.LightOutcome.the-variants.{Repaired, Heavier}
+use Rattle.codes.proofs.Nearest.{Chosen, chosen, kept, first-chosen, Near, test-near, near-test, nearest-near}
+
+-- b is what the light repair gives for w, and o what it says of it
+abbrev pub LightRepaired : ℕ → ℕ → List ℕ → List ℕ → LightOutcome → Type 0
+LightRepaired p t w b o = (b ≡ nearest p t w) × (o ≡ lightOutcome p t w)
+
+differ : Repaired ≡ Heavier → ⊥
+differ e = let z : _≡_ {A = ℕ} 0 1 = cc in omega arith
+
+module _ (p t : ℕ) (w : List ℕ) (hw : Bytes w) where
+  said : Bool → LightOutcome
+  said near = cond near Repaired Heavier
+
+  -- a code word is near
+  pub near-repaired : (c : List ℕ) → Near p t w c → lightOutcome p t w ≡ Repaired
+  unfolding nearest lightOutcome said
+  near-repaired c n = go (first-chosen (isNear p t w) w)
+    where
+      go : {d : List ℕ} → Chosen (isNear p t w) w d → said (isNear p t w d) ≡ Repaired
+      go (chosen {c = d} k l h) = ap said (truth (isNear p t w d) h)
+      go (kept f) = absurd (false≢true (sym (f c (n .bytes) (sym (n .len))) ∙ near-test p t w hw c n))
+
+  pub repaired-near : lightOutcome p t w ≡ Repaired → Near p t w (nearest p t w)
+  unfolding nearest lightOutcome said
+  repaired-near e = go (first-chosen (isNear p t w) w) e
+    where
+      go : {d : List ℕ} → Chosen (isNear p t w) w d → said (isNear p t w d) ≡ Repaired → Near p t w d
+      go (chosen {c = d} k l h) e = test-near p t w hw d k l h
+      go (kept f) e = absurd (differ (sym e ∙ ap said (f w hw refl)))
+
+  -- none is
+  pub none-heavier : ((c : List ℕ) → Near p t w c → ⊥) → LightRepaired p t w w Heavier
+  unfolding nearest lightOutcome said
+  none-heavier lone = go (first-chosen (isNear p t w) w)
+    where
+      go : {d : List ℕ} → Chosen (isNear p t w) w d → (w ≡ d) × (Heavier ≡ said (isNear p t w d))
+      go (chosen {c = d} k l h) = absurd (lone d (test-near p t w hw d k l h))
+      go (kept f) = (refl, sym (ap said (f w hw refl)))
+
+  pub heavier-none : lightOutcome p t w ≡ Heavier → (c : List ℕ) → Near p t w c → ⊥
+  heavier-none e c n = differ (sym (near-repaired c n) ∙ e)
+
+  -- within t bytes is within s
+  pub light-general : (s : ℕ) → t ≤ s → s + s ≤ p → length w ≤ 255 → lightOutcome p t w ≡ Repaired → nearest p s w ≡ nearest p t w
+  light-general s more room short e =
+      let n = repaired-near e in
+      nearest-near p s w hw short room (nearest p t w) (record { bytes = n .bytes; len = n .len; code = n .code; close = omega (arith, n .close, more) })
