@@ -154,12 +154,12 @@ impl Parser<'_> {
 
 // ---- the page
 
-/// What stands between two headings: what its equations define, the equations, and the lines of its tables by their names.
+/// What stands between two headings: what its equations define, the equations, and its tables, each a name and lines.
 struct Section {
     title: String,
     names: HashMap<String, Value>,
     equations: Vec<String>,
-    tables: HashMap<String, Vec<String>>,
+    tables: Vec<(String, Vec<String>)>,
 }
 
 impl Section {
@@ -168,7 +168,7 @@ impl Section {
             title: title.to_string(),
             names: HashMap::from([("n".to_string(), Number(ROW as i64))]),
             equations: Vec::new(),
-            tables: HashMap::new(),
+            tables: Vec::new(),
         }
     }
 
@@ -227,7 +227,7 @@ impl Section {
             let text = lines.join("\n").replace("\n ", " ");
             text.lines().for_each(|line| self.equations(report, line));
         } else {
-            self.tables.insert(name.to_string(), lines);
+            self.tables.push((name.to_string(), lines));
         }
     }
 
@@ -408,10 +408,11 @@ fn tables() -> [(&'static str, Vec<Vec<String>>); 2] {
 
 /// Entry by entry, and no other tables.
 fn check_tables(report: &mut Report, sections: &[Section]) {
-    let told: HashMap<&str, &Vec<String>> = sections.iter().flat_map(|section| &section.tables).map(|(name, lines)| (name.as_str(), lines)).collect();
-    report.check(told.len() == 2, || format!("the tables are {:?}", told.keys()));
+    let told: Vec<&(String, Vec<String>)> = sections.iter().flat_map(|section| &section.tables).collect();
+    report.check(told.len() == 2, || format!("{} tables", told.len()));
     for (name, due) in tables() {
-        let lines: Vec<Vec<&str>> = told.get(name).map_or(Vec::new(), |lines| lines.iter().map(|line| line.split_whitespace().collect()).collect());
+        let lines = told.iter().filter(|table| table.0 == name).flat_map(|table| &table.1);
+        let lines: Vec<Vec<&str>> = lines.map(|line| line.split_whitespace().collect()).collect();
         report.check(lines.len() == due.len(), || format!("{name}: {} lines", lines.len()));
         for (line, due) in lines.iter().zip(&due) {
             report.check(line.len() == due.len(), || format!("{name}: {line:?}"));

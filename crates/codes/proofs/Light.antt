@@ -1,20 +1,25 @@
 -- The light repair, over length, number of roots and number of wrong bytes: it says 'Repaired' exactly where a code word is within t bytes (near-repaired,
--- repaired-near), and 'Heavier' exactly where none is (none-heavier, heavier-none). Where it repairs, the word is what the repair within more bytes gives
--- (light-general).
+-- repaired-near), and 'Heavier' exactly where none is (none-heavier, heavier-none). Where it repairs, the word is what the general repair gives: that within more
+-- bytes (light-general), and that with marks of which none is set (light-unmarked, light-corrected).
 -- Assumes nothing.
 use mathlib.Core.Path.{_≡_, refl, sym, ap, _∙_}
-use mathlib.Core.Bool.{Bool, false≢true, cond}
+use mathlib.Core.Bool.{Bool, false, false≢true, cond}
 use mathlib.Core.List.{List}
-use Prim.Native.Nat.{ℕ, _+_, _≤_}
+use Prim.Native.Nat.{ℕ, _+_, _<_, _≤_}
 use native.Mathlib.Omega.{arith}
 use lib.ListN.{length}
 use Rattle.lists.specs.Bytes.{Bytes}
 use Rattle.lists.proofs.Test.{truth}
+use Rattle.codes.specs.Word.{isCode}
 use Rattle.codes.specs.Nearest.{isNear, nearest}
+use Rattle.codes.specs.Erasures.{isErased, nearestErased, outcomeErased}
 use Rattle.codes.specs.Light.{lightOutcome}
 use Rattle.codes.specs.declared.LightOutcome.{LightOutcome}
 use Rattle.codes.specs.declared.LightOutcome.the-variants.{Repaired, Heavier}
-use Rattle.codes.proofs.Nearest.{Chosen, chosen, kept, first-chosen, Near, test-near, near-test, nearest-near}
+use Rattle.codes.specs.declared.Outcome.the-variants.{Corrected}
+use Rattle.codes.proofs.Words.{test-of-code}
+use Rattle.codes.proofs.Erasures.{nearest-unmarked, outcome-unmarked}
+use Rattle.codes.proofs.Nearest.{Chosen, chosen, kept, first-chosen, Near, test-near, near-test, nearest-near, outcome-corrected}
 
 -- b is what the light repair gives for w, and o what it says of it
 abbrev pub LightRepaired : ℕ → ℕ → List ℕ → List ℕ → LightOutcome → Type 0
@@ -61,3 +66,19 @@ module _ (p t : ℕ) (w : List ℕ) (hw : Bytes w) where
   light-general s more room short e =
       let n = repaired-near e in
       nearest-near p s w hw short room (nearest p t w) (record { bytes = n .bytes; len = n .len; code = n .code; close = omega (arith, n .close, more) })
+
+-- s wrong bytes are put right by the general repair, and nothing is marked
+module _ (t s : ℕ) (more : t ≤ s) (m w : List ℕ) (hw : Bytes w) (short : length w ≤ 255) (unmarked : (i : ℕ) → i < length w → isErased m i ≡ false)
+    (e : lightOutcome (s + s) t w ≡ Repaired) where
+  general : nearest (s + s) s w ≡ nearest (s + s) t w
+  general = light-general (s + s) t w hw s more (omega arith) short e
+
+  pub light-unmarked : nearestErased (s + s) m w ≡ nearest (s + s) t w
+  light-unmarked = nearest-unmarked s m w unmarked ∙ general
+
+  -- a word that was no code word has become one
+  pub light-corrected : isCode (s + s) w ≡ false → outcomeErased (s + s) m w ≡ Corrected
+  light-corrected nc =
+      outcome-unmarked s m w unmarked hw
+      ∙ outcome-corrected (s + s) s w hw nc
+      (ap (isCode (s + s)) general ∙ truth (isCode (s + s) (nearest (s + s) t w)) (test-of-code (s + s) (nearest (s + s) t w) (repaired-near (s + s) t w hw e .code)))

@@ -219,3 +219,7 @@ module _ (p t : ℕ) (w : List ℕ) (hw : Bytes w) where
   pub outcome-clean : isCode p w ≡ true → outcomeOf p t w ≡ Clean
   unfolding outcomeOf
   outcome-clean e = ap (λ (b : Bool). cond b Clean (cond (isCode p (nearest p t w)) Corrected Uncorrectable)) e
+
+  pub outcome-corrected : isCode p w ≡ false → isCode p (nearest p t w) ≡ true → outcomeOf p t w ≡ Corrected
+  unfolding outcomeOf
+  outcome-corrected e f = ap₂ (λ (a b : Bool). cond a Clean (cond b Corrected Uncorrectable)) e f

@@ -1,16 +1,15 @@
 -- What the definitions of specs/Answers say in each case of the lengths, for any lengths.
 -- Assumes nothing.
-use mathlib.Core.Bool.{Bool, true, false, _&&_}
+use mathlib.Core.Bool.{Bool, true, false, cond, _&&_}
 use mathlib.Core.List.{List}
 use mathlib.Core.Path.{_≡_, sym, _∙_}
 use Prim.Native.Nat.{ℕ}
 use lib.ListN.{length}
 use borrow.Author.Tests.{eq-eqb, ne-eqb}
-use Rattle.codes.specs.Nearest.{nearest, outcomeOf}
 use Rattle.codes.specs.Erasures.{nearestErased, outcomeErased}
-use Rattle.layout.specs.Lengths.{rowCount, rowSize, innerSize, outerSize}
+use Rattle.layout.specs.Lengths.{rowSize, innerSize}
 use Rattle.repairer.specs.Answer.{marksFit}
-use Rattle.ffi.specs.Answers.{sized, doneOr1, heldAfter, outcomeNumber, columnRepairNumber, columnRepairBytes, rowRepairNumber, rowRepairBytes}
+use Rattle.ffi.specs.Answers.{sized, doneOr1, heldAfter, outcomeNumber, rowRepairNumber, rowRepairBytes}
 
 -- ---- a function that reads n bytes a and fills the m bytes b
 
@@ -26,14 +25,14 @@ pub done :
     (n m : ℕ) (a b asked b' : List ℕ) → length a ≡ n → length b ≡ m → b' ≡ asked → (0 ≡ doneOr1 (sized n a && sized m b)) × (b' ≡ heldAfter (sized n a && sized m b) asked b)
 done n m a b asked b' l k e = (rw (eq-eqb (length a) n l, eq-eqb (length b) m k), e ∙ rw (eq-eqb (length a) n l, eq-eqb (length b) m k))
 
--- ---- the repair of a column
+-- ---- a repair without marks of a word of n bytes
 
-pub column-refused : (w : List ℕ) → (length w ≡ rowCount → ⊥) → (1 ≡ columnRepairNumber w) × (w ≡ columnRepairBytes w)
-column-refused w h = (rw (ne-eqb (length w) rowCount h), rw (ne-eqb (length w) rowCount h))
+pub word-refused : (n number : ℕ) (w asked : List ℕ) → (length w ≡ n → ⊥) → (1 ≡ cond (sized n w) number 1) × (w ≡ heldAfter (sized n w) asked w)
+word-refused n number w asked h = (rw (ne-eqb (length w) n h), rw (ne-eqb (length w) n h))
 
-pub column-repaired :
-    (r : ℕ) (w w' : List ℕ) → length w ≡ rowCount → r ≡ outcomeNumber (outcomeOf outerSize 8 w) → w' ≡ nearest outerSize 8 w → (r ≡ columnRepairNumber w) × (w' ≡ columnRepairBytes w)
-column-repaired r w w' l e f = (e ∙ rw (eq-eqb (length w) rowCount l), f ∙ rw (eq-eqb (length w) rowCount l))
+pub word-repaired :
+    (n number r : ℕ) (w asked w' : List ℕ) → length w ≡ n → r ≡ number → w' ≡ asked → (r ≡ cond (sized n w) number 1) × (w' ≡ heldAfter (sized n w) asked w)
+word-repaired n number r w asked w' l e f = (e ∙ rw (eq-eqb (length w) n l), f ∙ rw (eq-eqb (length w) n l))
 
 -- ---- the repair of a row with its marks
 

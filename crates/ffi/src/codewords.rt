@@ -4,7 +4,8 @@ ghost use mathlib.Core.Bool.{_&&_};
 ghost use Rattle.field.specs.Field.{mul, pow};
 ghost use Rattle.codes.specs.Parity.{parity};
 ghost use Rattle.layout.specs.Lengths.{dataRows, columnCount, outerSize, innerSize};
-ghost use Rattle.ffi.specs.Answers.{sized, doneOr1, heldAfter, outcomeNumber, columnRepairNumber, columnRepairBytes, rowRepairNumber, rowRepairBytes};
+ghost use Rattle.ffi.specs.Answers.{sized, doneOr1, heldAfter, outcomeNumber, columnRepairNumber, columnRepairBytes, rowRepairNumber, rowRepairBytes, lightNumber, lightRepairNumber, lightRepairBytes};
+use codes::LightOutcome;
 use codes::Outcome;
 use layout::COLUMN_COUNT;
 use layout::DATA_ROWS;
@@ -12,6 +13,7 @@ use layout::INNER_SIZE;
 use layout::OUTER_SIZE;
 use layout::ROW_COUNT;
 use layout::ROW_SIZE;
+use lightrepair::LightRow;
 use reedsolomon::Column;
 use reedsolomon::Row;
 
@@ -43,6 +45,18 @@ fn outcome_number(outcome: Outcome) -> u32
         Outcome::Clean => 0,
         Outcome::Corrected => CORRECTED,
         Outcome::Uncorrectable => UNCORRECTABLE,
+    }
+}
+
+// The same of the light repair: no code word is within two bytes.
+const HEAVIER: u32 = 258;
+
+fn light_number(outcome: LightOutcome) -> u32
+    ensures { λ r. ⌜ r ≡ lightNumber outcome ⌝ }
+{
+    match outcome {
+        LightOutcome::Repaired => 0,
+        LightOutcome::Heavier => HEAVIER,
     }
 }
 
@@ -157,4 +171,25 @@ pub extern "C" fn chamanzil_correct_column(column: &mut [u8]) -> u32
     bytes::put(column, 0, &near);
     let outcome = repaired.outcome;
     outcome_number(outcome)
+}
+
+// The light repair of a row of 182 bytes without marks, in place.
+#[no_mangle]
+pub extern "C" fn chamanzil_correct_light_row(row: &mut [u8]) -> u32
+    ensures { λ r. ⌜ r ≡ lightRepairNumber (now (row .entry)) ⌝ }
+    ensures { λ r. ⌜ now (row .exit) ≡ lightRepairBytes (now (row .entry)) ⌝ }
+{
+    if row.len() != ROW_SIZE {
+        return 1;
+    }
+    let mut bytes = [0u8; ROW_SIZE];
+    bytes::put(&mut bytes, 0, row);
+    let repaired = lightrepair::correct_light_row(LightRow {
+        bytes,
+        outcome: LightOutcome::Heavier,
+    });
+    let near = repaired.bytes;
+    bytes::put(row, 0, &near);
+    let outcome = repaired.outcome;
+    light_number(outcome)
 }

@@ -11,6 +11,7 @@ pub use blocks::chamanzil_encode_block;
 pub use blocks::chamanzil_format_block;
 pub use codewords::chamanzil_column_parity;
 pub use codewords::chamanzil_correct_column;
+pub use codewords::chamanzil_correct_light_row;
 pub use codewords::chamanzil_correct_row;
 pub use codewords::chamanzil_ied;
 pub use codewords::chamanzil_power;

@@ -75,6 +75,16 @@ count-none f k (suc n) h =
     ap₂ (λ (x y : ℕ). x + y) (ap bit (ap f (omega arith) ∙ h 0 (omega arith)))
     (count-none f (suc k) n (λ i l. ap f (omega arith) ∙ h (suc i) (suc-le-suc l)))
 
+-- and where none is counted, none passes
+pub none-counted : (f : ℕ → Bool) (k n : ℕ) → countFrom f k n ≡ 0 → (i : ℕ) → i < n → f (k + i) ≡ false
+none-counted f k zero e i l = absurd (omega arith)
+none-counted f k (suc n) e zero l = ap f (omega arith) ∙ bit-none (f k) (omega arith)
+  where
+    bit-none : (b : Bool) → bit b ≡ 0 → b ≡ false
+    bit-none true z = absurd (omega arith)
+    bit-none false z = refl
+none-counted f k (suc n) e (suc i) l = ap f (omega arith) ∙ none-counted f (suc k) n (omega arith) i (omega arith)
+
 -- one more number passes
 pub count-flip :
     (f g : ℕ → Bool) (k n i : ℕ) → i < n → ((j : ℕ) → j < n → (j ≡ i → ⊥) → f (k + j) ≡ g (k + j)) → f (k + i) ≡ false → g (k + i) ≡ true

@@ -4,6 +4,7 @@
 --   word-overfull                                   more marks than roots
 --   word-clean, word-corrected, word-uncorrectable  what the syndromes of the word and of the mended word decide
 --   unmarked-repaired                               without marks it is the repair within p / 2 bytes
+--   word-light                                      and what the light repair gives where it repairs; row-light, column-light: of rows and of columns
 -- Assumes nothing.
 use mathlib.Core.Path.{_≡_, sym, ap, _∙_}
 use mathlib.Core.Bool.{Bool, true, false}
@@ -14,16 +15,20 @@ use lib.Dec.{eqb}
 use lib.ListN.{length, take, replicate}
 use Rattle.lists.specs.Bytes.{Bytes}
 use Rattle.lists.specs.Fill.{tabulate}
-use Rattle.lists.proofs.Count.{count-none}
+use Rattle.lists.proofs.Count.{count-none, none-counted}
 use Rattle.codes.specs.Word.{syndrome, allZero}
 use Rattle.codes.specs.Nearest.{nearest, outcomeOf}
-use Rattle.codes.specs.Erasures.{isErased, erasureCount}
+use Rattle.codes.specs.Light.{lightOutcome}
+use Rattle.codes.specs.Erasures.{isErased, erasureCount, nearestErased}
 use Rattle.codes.specs.Inner.{at, Places, mended}
+use Rattle.codes.specs.declared.LightOutcome.{LightOutcome}
+use Rattle.codes.specs.declared.LightOutcome.the-variants as Light
 use Rattle.codes.specs.declared.Outcome.{Outcome}
 use Rattle.codes.specs.declared.Outcome.the-variants.{Clean, Corrected, Uncorrectable}
 use Rattle.codes.proofs.Division.{Code, ten-roots, sixteen-roots}
 use Rattle.codes.proofs.Erasures.{nearest-unmarked, outcome-unmarked}
-use Rattle.codes.proofs.Decision.{Repaired, overfull, clean, corrected, uncorrectable}
+use Rattle.codes.proofs.Decision.{Repaired, allZero-isCode, overfull, clean, corrected, uncorrectable}
+use Rattle.codes.proofs.Light.{LightRepaired, light-general, light-unmarked, light-corrected}
 use Rattle.layout.specs.Lengths.{rowCount, rowSize, innerSize, outerSize}
 use Rattle.multiples.specs.Inner.{high, low}
 use Rattle.division.specs.Inner.{remainderOf, unpacked}
@@ -88,3 +93,28 @@ zeros-count n = sym (count-none (isErased (replicate n 0)) 0 n (λ i l. zeros-un
 pub unmarked-repaired : (n t : ℕ) (w b : List ℕ) (o : Outcome) → Bytes w → Repaired (t + t) (replicate n 0) w b o → (b ≡ nearest (t + t) t w) × (o ≡ outcomeOf (t + t) t w)
 unmarked-repaired n t w b o hw r =
     (r .0 ∙ nearest-unmarked t (replicate n 0) w (λ i l. zeros-unmarked n i), r .1 ∙ outcome-unmarked t (replicate n 0) w (λ i l. zeros-unmarked n i) hw)
+
+-- nothing is marked, and the light repair within t bytes gave y and said o
+module _ {n : ℕ} (r : ℕ) (shape : Shape n (r + r)) (w : List ℕ) (size : length w ≡ n) (hw : Bytes w) (m : List ℕ) (f : ℕ) (ef : f ≡ erasureCount m n) (none : f ≡ 0) where
+  nothing : (i : ℕ) → i < length w → isErased m i ≡ false
+  unfolding erasureCount
+  nothing i l = ap (isErased m) (omega arith) ∙ none-counted (isErased m) 0 n (sym ef ∙ none) i (omega arith)
+
+  short : length w ≤ 255
+  short = omega (arith, shape .short)
+
+  pub word-light :
+      (t : ℕ) → t ≤ r → (y : List ℕ) (o : LightOutcome) → LightRepaired (r + r) t w y o → o ≡ Light.Repaired
+      → (s : List ℕ) → s ≡ tabulate (syndrome w) (r + r) → allZero s ≡ false → Repaired (r + r) m w y Corrected
+  word-light t more y o light said s ss dirty =
+      let e : lightOutcome (r + r) t w ≡ Light.Repaired = sym (light .1) ∙ said in
+      (light .0 ∙ sym (light-unmarked t r more m w hw short nothing e),
+      sym (light-corrected t r more m w hw short nothing e (sym (allZero-isCode (r + r) w s ss) ∙ dirty)))
+
+-- THE LIGHT REPAIR AND THE GENERAL ONE: where it repairs a row, the row is what the general repair gives of it without marks; and so is a column
+pub row-light :
+    (w : List ℕ) → Bytes w → length w ≡ rowSize → lightOutcome innerSize 2 w ≡ Light.Repaired → nearestErased innerSize (replicate rowSize 0) w ≡ nearest innerSize 2 w
+row-light w hw size e = light-unmarked 2 5 (omega arith) (replicate rowSize 0) w hw (omega arith) (λ i l. zeros-unmarked rowSize i) e
+
+pub column-light : (w : List ℕ) → Bytes w → length w ≡ rowCount → lightOutcome outerSize 2 w ≡ Light.Repaired → nearest outerSize 8 w ≡ nearest outerSize 2 w
+column-light w hw size e = light-general outerSize 2 w hw 8 (omega arith) (omega arith) (omega arith) e

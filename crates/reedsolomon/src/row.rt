@@ -1,17 +1,20 @@
 // The repair of a row of 182 bytes with 10 roots and its marks: the code row that differs in e unmarked bytes, where 2e and
 // the marks are at most ten (document 01, 'Reading a word, and the repair'; document 02, request 2).
+ghost use mathlib.Core.Bool.{false};
 ghost use mathlib.Core.Path.{_≡_};
 ghost use Prim.Native.Nat.{_+_, _≤_};
 ghost use lib.ListN.{length, take};
 ghost use Rattle.lists.specs.Fill.{tabulate};
 ghost use Rattle.field.specs.Inner.{LogTable};
-ghost use Rattle.codes.specs.Word.{syndrome};
+ghost use Rattle.codes.specs.Word.{syndrome, allZero};
 ghost use Rattle.codes.specs.Erasures.{erasureCount, nearestErased, outcomeErased};
 ghost use Rattle.multiples.specs.Inner.{multiples};
 ghost use Rattle.codes.specs.Inner.{at, Locator, erasedPlace, withoutMarked, Places, AllBelow, mended};
 ghost use Rattle.layout.specs.Lengths.{rowSize};
+use codes::LightOutcome;
 use codes::Outcome;
 use layout::ROW_SIZE;
+use lightrepair::LightRow;
 
 // A row and what became of it. It goes in by value and its tally comes back with it (document 01).
 pub struct Row {
@@ -100,8 +103,44 @@ fn row_mend(
     near
 }
 
+// The repair by locator and search, of a row whose syndromes are not all 0 and of which at most ten bytes are marked. The
+// syndromes of the mended row decide.
+fn correct_row_located(
+    logs: &[u8; 768],
+    table: &[u64; 512],
+    erasures: &[u8],
+    marked: usize,
+    syndromes: [u8; 10],
+    bytes: [u8; ROW_SIZE],
+) -> Row
+    requires { ⌜ LogTable (now logs)
+        × (now table ≡ multiples 10)
+        × (length (now erasures) ≡ rowSize)
+        × (marked ≡ erasureCount (now erasures) rowSize)
+        × (marked ≤ 10)
+        × (syndromes ≡ tabulate (syndrome bytes) 10)
+        × (allZero syndromes ≡ false) ⌝ }
+    ensures { λ r. ⌜ r .bytes ≡ nearestErased 10 (now (erasures .entry)) bytes ⌝ }
+    ensures { λ r. ⌜ r .outcome ≡ outcomeErased 10 (now (erasures .entry)) bytes ⌝ }
+{
+    let places = row_search(logs, erasures, (10 - marked) / 2, syndromes);
+    let near = row_mend(logs, bytes, syndromes, places);
+    let again = row_syndromes(logs, table, near);
+    if syndromes::all_zero(&again) {
+        return Row {
+            bytes: near,
+            outcome: Outcome::Corrected,
+        };
+    }
+    Row {
+        bytes,
+        outcome: Outcome::Uncorrectable,
+    }
+}
+
 // The repair of a row whose syndromes are known, over lent tables: of logarithms, and of the generator's multiples. With
-// more than ten marks it is past help, whatever its syndromes; else they decide, before and after mending.
+// more than ten marks it is past help, whatever its syndromes. Else they decide; where nothing is marked the light repair is
+// tried first, since most rows that are not clean have one or two wrong bytes.
 pub fn correct_row_from(
     logs: &[u8; 768],
     table: &[u64; 512],
@@ -119,30 +158,31 @@ pub fn correct_row_from(
     let bytes = row.bytes;
     let marked = crate::erasures::count_erasures(erasures);
     if 10 < marked {
-        return Row {
-            bytes,
-            outcome: Outcome::Uncorrectable,
-        };
+        let outcome = Outcome::Uncorrectable;
+        return Row { bytes, outcome };
     }
     if syndromes::all_zero(&syndromes) {
-        return Row {
+        let outcome = Outcome::Clean;
+        return Row { bytes, outcome };
+    }
+    if marked == 0 {
+        let heavier = LightOutcome::Heavier;
+        let start = LightRow {
             bytes,
-            outcome: Outcome::Clean,
+            outcome: heavier,
         };
+        let light = lightrepair::correct_light_row_from(logs, syndromes, start);
+        let near = light.bytes;
+        let said = light.outcome;
+        if let LightOutcome::Repaired = said {
+            let outcome = Outcome::Corrected;
+            return Row {
+                bytes: near,
+                outcome,
+            };
+        }
     }
-    let places = row_search(logs, erasures, (10 - marked) / 2, syndromes);
-    let near = row_mend(logs, bytes, syndromes, places);
-    let again = row_syndromes(logs, table, near);
-    if syndromes::all_zero(&again) {
-        return Row {
-            bytes: near,
-            outcome: Outcome::Corrected,
-        };
-    }
-    Row {
-        bytes,
-        outcome: Outcome::Uncorrectable,
-    }
+    correct_row_located(logs, table, erasures, marked, syndromes, bytes)
 }
 
 // The repair, over lent tables.

@@ -8,13 +8,13 @@ use Rattle.bytes.proofs.Copies.{put-all}
 use Rattle.layout.specs.Lengths.{rowCount, outerSize}
 use Rattle.codes.specs.Nearest.{nearest, outcomeOf}
 use Rattle.ffi.specs.Answers.{outcomeNumber}
-use Rattle.ffi.proofs.Lengths.{column-refused, column-repaired}
+use Rattle.ffi.proofs.Lengths.{word-refused, word-repaired}
 use borrow.Author.Needs.{needs}
 use Rattle.ffi.proofs.codewords.chamanzil_correct_column.Statement.{statement}
 use Rattle.ffi.proofs.codewords.chamanzil_correct_column.Tie as tie
 
 returns : tie.Need-returns
-returns c = column-refused (c .before .before .args .column .now) (c .if1 .taken)
+returns c = word-refused rowCount _ (c .before .before .args .column .now) _ (c .if1 .taken)
 
 slice-aggregate-put : tie.Need-slice-aggregate-put
 slice-aggregate-put c = search needs
@@ -50,7 +50,7 @@ returns-2 c =
     let w = fit .before .before .args .column .now in
     let lent = put-all w (replicate rowCount 0) _ (copied .put .ensures) (fit .if1 .left ∙ sym (length-replicate {A = ℕ} rowCount 0)) in
     let held = put-all (made .correct-column .result .bytes) w _ (put .put2 .ensures) (omega (arith, slice-aggregate-put-2 near, fit .if1 .left)) in
-    column-repaired _ w _ (fit .if1 .left)
+    word-repaired rowCount _ _ w _ _ (fit .if1 .left)
     (c .outcome-number .ensures ∙ ap outcomeNumber (made .correct-column .ensures .1) ∙ ap (λ (v : List ℕ). outcomeNumber (outcomeOf outerSize 8 v)) lent)
     (held ∙ made .correct-column .ensures .0 ∙ ap (nearest outerSize 8) lent)
 

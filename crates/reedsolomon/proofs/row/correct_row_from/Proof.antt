@@ -1,5 +1,6 @@
--- `row::correct_row_from` meets its contract: the marks decide, and then the syndromes, of the row and of the mended row. Assumes nothing.
-use mathlib.Core.Path.{_≡_, ap, _∙_}
+-- `row::correct_row_from` meets its contract: the marks decide, and then the syndromes; where nothing is marked and the light repair repairs, that is it. Assumes
+-- nothing.
+use mathlib.Core.Path.{_≡_, sym, ap, _∙_}
 use Prim.Native.Nat.{ℕ}
 use native.Mathlib.Omega.{arith}
 use lib.ListN.{length, getD}
@@ -10,16 +11,14 @@ use Rattle.lists.specs.Bytes.{Bytes}
 use Rattle.lists.proofs.Bytes.{bytes-of}
 use Rattle.layout.specs.Lengths.{rowSize}
 use Rattle.codes.specs.Erasures.{erasureCount}
-use Rattle.codes.proofs.Decision.{places-below}
-use Rattle.reedsolomon.proofs.Repair.{row-shape, word-overfull, word-clean, word-corrected, word-uncorrectable}
+use Rattle.reedsolomon.proofs.Repair.{row-shape, word-overfull, word-clean, word-light}
 use Rattle.reedsolomon.proofs.row.correct_row_from.Statement.{statement}
 use Rattle.reedsolomon.proofs.row.correct_row_from.Tie as tie
 use Rattle.reedsolomon.proofs.row.correct_row_from.Reads as reads
 use Rattle.reedsolomon.proofs.row.correct_row_from.Lts as lts
+use Rattle.lightrepair.proofs.correct_light_row_from.Reads as correct-light-row-from-reads
 use Rattle.reedsolomon.proofs.erasures.count_erasures.Reads as count-erasures-reads
-use Rattle.reedsolomon.proofs.row.row_mend.Reads as row-mend-reads
-use Rattle.reedsolomon.proofs.row.row_search.Reads as row-search-reads
-use Rattle.reedsolomon.proofs.row.row_syndromes.Reads as row-syndromes-reads
+use Rattle.reedsolomon.proofs.row.correct_row_located.Reads as correct-row-located-reads
 use Rattle.syndromes.proofs.all_zero.Reads as all-zero-reads
 
 -- the row that comes in
@@ -30,12 +29,10 @@ Start =
       count-erasures-reads.Learnt,
       all-zero-reads.Asked,
       all-zero-reads.Learnt,
-      row-search-reads.Asked,
-      row-search-reads.Learnt,
-      row-mend-reads.Asked,
-      row-mend-reads.Learnt,
-      row-syndromes-reads.Asked,
-      row-syndromes-reads.Learnt,
+      correct-light-row-from-reads.Asked,
+      correct-light-row-from-reads.Learnt,
+      correct-row-located-reads.Asked,
+      correct-row-located-reads.Learnt,
     ) reads.Pre reads.Post
 
 size : (start : Start) → length (start .args .row .bytes) ≡ rowSize
@@ -69,51 +66,35 @@ returns-2 c =
     word-clean row-shape _ (size start) (bytes start) _ (start .pre .2) _ (counted start _ (fit .before .count-erasures .ensures)) (omega arith)
     _ (start .pre .3) _ (c .before .all-zero .ensures) (c .if2 .taken)
 
-row-search-requires : tie.Need-row-search-requires
-row-search-requires c κs =
-    let fit = c .before .before .before in
-    let start = fit .before .before .before .before in
-    (start .pre .0, start .pre .2, omega (arith, counted start _ (fit .before .count-erasures .ensures)))
+correct-light-row-from-requires : tie.Need-correct-light-row-from-requires
+correct-light-row-from-requires c κs = search needs
 
-row-mend-requires : tie.Need-row-mend-requires
-row-mend-requires c κs =
-    let fit = c .before .before .before .before in
-    let start = fit .before .before .before .before in
-    let found = c .row-search .ensures in
-    (start .pre .0, found .0, λ j l. omega (arith, places-below _ _ _ _ (found .1) j l, start .pre .2))
-
-row-syndromes-requires : tie.Need-row-syndromes-requires
-row-syndromes-requires c κs = search needs
-
-slice-aggregate-all-zero-2 : tie.Need-slice-aggregate-all-zero-2
-slice-aggregate-all-zero-2 c = search needs
-
-all-zero-requires-2 : tie.Need-all-zero-requires-2
-all-zero-requires-2 c κs = search needs
+enum-told : tie.Need-enum-told
+enum-told c = search needs
 
 returns-3 : tie.Need-returns-3
 returns-3 c =
-    let summed = c .before .before .before in
-    let mended = summed .before in
-    let found = mended .before in
-    let dirty = found .before in
+    let light = c .before .before .before in
+    let dirty = light .before .before in
     let fit = dirty .before .before .before in
     let start = fit .before .before .before .before in
-    word-corrected row-shape _ (size start) (bytes start) _ (start .pre .2) _ (counted start _ (fit .before .count-erasures .ensures)) (omega arith)
-    _ (start .pre .3) _ (dirty .before .all-zero .ensures) (dirty .if2 .left)
-    _ (found .row-search .ensures .1) _ (mended .row-mend .ensures) _ (summed .row-syndromes .ensures) _ (c .before .all-zero2 .ensures) (c .if3 .taken)
+    word-light 5 row-shape _ (size start) (bytes start) _ _ (counted start _ (fit .before .count-erasures .ensures)) (light .before .if3 .taken)
+    2 (omega arith) _ _ (light .correct-light-row-from .ensures) (c .enum-told .given .1)
+    _ (start .pre .3) (sym (dirty .before .all-zero .ensures) ∙ dirty .if2 .left)
+
+enum-told-2 : tie.Need-enum-told-2
+enum-told-2 c = search needs
+
+correct-row-located-requires : tie.Need-correct-row-located-requires
+correct-row-located-requires c κs =
+    let dirty = c .before in
+    let fit = dirty .before .before .before in
+    let start = fit .before .before .before .before in
+    (start .pre .0, start .pre .1, start .pre .2, counted start _ (fit .before .count-erasures .ensures), omega arith, start .pre .3,
+    sym (dirty .before .all-zero .ensures) ∙ dirty .if2 .left)
 
 returns-4 : tie.Need-returns-4
-returns-4 c =
-    let summed = c .before .before .before in
-    let mended = summed .before in
-    let found = mended .before in
-    let dirty = found .before in
-    let fit = dirty .before .before .before in
-    let start = fit .before .before .before .before in
-    word-uncorrectable row-shape _ (size start) (bytes start) _ (start .pre .2) _ (counted start _ (fit .before .count-erasures .ensures)) (omega arith)
-    _ (start .pre .3) _ (dirty .before .all-zero .ensures) (dirty .if2 .left)
-    _ (found .row-search .ensures .1) _ (mended .row-mend .ensures) _ (summed .row-syndromes .ensures) _ (c .before .all-zero2 .ensures) (c .if3 .left)
+returns-4 c = search needs
 
 pub correct-row-from-spec : {M : Type 1} → statement M
 correct-row-from-spec =
@@ -124,10 +105,9 @@ correct-row-from-spec =
     slice-aggregate-all-zero
     all-zero-requires
     returns-2
-    row-search-requires
-    row-mend-requires
-    row-syndromes-requires
-    slice-aggregate-all-zero-2
-    all-zero-requires-2
+    correct-light-row-from-requires
+    enum-told
     returns-3
+    enum-told-2
+    correct-row-located-requires
     returns-4)
