@@ -86,8 +86,9 @@ enum {
 /* ---- outcomes of a row or a column that was no code word, above every refusal */
 
 enum {
-    CHAMANZIL_CORRECTED = 256,    /* it became the code word near it */
-    CHAMANZIL_UNCORRECTABLE = 257 /* there is none near enough, and it stays as it was */
+    CHAMANZIL_CORRECTED = 256,     /* it became the code word near it */
+    CHAMANZIL_UNCORRECTABLE = 257, /* there is none near enough, and it stays as it was */
+    CHAMANZIL_HEAVIER = 258        /* of the light repair: there is none within two bytes, and it stays as it was */
 };
 
 /* ---- what a Code Word is read as where it is in no table; every other reading is a byte, 0 to 255 */
@@ -195,6 +196,12 @@ uint32_t chamanzil_ied(const uint8_t *id, size_t id_len, uint8_t *out, size_t ou
  * it was. */
 uint32_t chamanzil_correct_row(uint8_t *row, size_t row_len, const uint8_t *erasures, size_t erasures_len);
 uint32_t chamanzil_correct_column(uint8_t *column, size_t column_len);
+
+/* The light repair in place of a row of CHAMANZIL_ROW bytes without marks, at most two of them wrong, by formulas that a student can follow with pencil and paper
+ * (docs/course/light-repair.md). 0: a code row differs from it in at most two bytes, and it is that now; a code row is repaired to itself. What it is then,
+ * chamanzil_correct_row with zeros for marks makes of it too. CHAMANZIL_HEAVIER: there is none that near, and it is as it was. 1: another length, and it is as it
+ * was. */
+uint32_t chamanzil_correct_light_row(uint8_t *row, size_t row_len);
 
 /* ---- Code Words and streams */
 

@@ -153,6 +153,22 @@ static void correct_by_marks(void)
     expect(chamanzil_correct_row(row, sizeof row, marked, sizeof marked - 1) == CHAMANZIL_LENGTH, "another length of a row's marks");
 }
 
+/* One to three wrong bytes in a row of zeros, by the light repair. */
+static void correct_light(void)
+{
+    static const uint8_t zeros[CHAMANZIL_ROW] = {0};
+    uint8_t row[CHAMANZIL_ROW] = {0};
+    expect(chamanzil_correct_light_row(row, sizeof row) == CHAMANZIL_DONE, "a code row by the light repair");
+    row[40] = 9;
+    expect(chamanzil_correct_light_row(row, sizeof row) == CHAMANZIL_DONE && memcmp(row, zeros, sizeof row) == 0, "one wrong byte by the light repair");
+    row[40] = 9;
+    row[181] = 1;
+    expect(chamanzil_correct_light_row(row, sizeof row) == CHAMANZIL_DONE && memcmp(row, zeros, sizeof row) == 0, "two wrong bytes by the light repair");
+    memset(row, 9, 3);
+    expect(chamanzil_correct_light_row(row, sizeof row) == CHAMANZIL_HEAVIER && row[0] == 9 && row[2] == 9 && row[3] == 0, "three wrong bytes are heavier");
+    expect(chamanzil_correct_light_row(row, sizeof row - 1) == CHAMANZIL_LENGTH && row[0] == 9, "another length of a light row");
+}
+
 /* A mark of 2 in the last place of the block: everything is as it was, the wrong byte in its first row too. */
 static void mark_refused(void)
 {
@@ -264,6 +280,7 @@ int main(void)
 
     repair_by_marks();
     correct_by_marks();
+    correct_light();
     be_refused();
     close_by_dsv();
     write_run(0x02FFF0);

@@ -31,8 +31,8 @@ use std::fmt;
 
 pub use refusal::Refusal;
 pub use words::{
-    closing_holds, column_parity, correct_column, correct_row, ied, power, product, read_word,
-    row_parity, zero_runs_hold, Outcome,
+    closing_holds, column_parity, correct_column, correct_light_row, correct_row, ied, power,
+    product, read_word, row_parity, zero_runs_hold, LightOutcome, Outcome,
 };
 pub use writer::{Record, Trial, Writer};
 

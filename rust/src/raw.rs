@@ -6,6 +6,8 @@ use crate::Record;
 pub const CORRECTED: u32 = 256;
 /// or there is none near enough, and it stays.
 pub const UNCORRECTABLE: u32 = 257;
+/// What `chamanzil_correct_light_row` answers of a row that no code row is within two bytes of: it stays.
+pub const HEAVIER: u32 = 258;
 
 extern "C" {
     pub fn chamanzil_product(a: u8, b: u8) -> u8;
@@ -30,6 +32,7 @@ extern "C" {
         erasures_len: usize,
     ) -> u32;
     pub fn chamanzil_correct_column(column: *mut u8, column_len: usize) -> u32;
+    pub fn chamanzil_correct_light_row(row: *mut u8, row_len: usize) -> u32;
     pub fn chamanzil_read_word(word: u16, following: u16) -> u32;
     pub fn chamanzil_zero_runs_hold(stream: *const u8, stream_len: usize) -> u32;
     pub fn chamanzil_closing_holds(bytes: *const u8, bytes_len: usize) -> u32;

@@ -324,3 +324,13 @@ pub fn correct_column(column: &mut [u8]) -> Result<crate::Outcome, Refusal> {
         raw::chamanzil_correct_column(column.as_mut_ptr(), column.len())
     })
 }
+
+/// The light repair of a row of 182 bytes, in place.
+///
+/// # Errors
+/// 1, with `row` as it was.
+pub fn correct_light_row(row: &mut [u8]) -> Result<crate::LightOutcome, Refusal> {
+    crate::words::light_outcome(unsafe {
+        raw::chamanzil_correct_light_row(row.as_mut_ptr(), row.len())
+    })
+}

@@ -20,6 +20,22 @@ pub(crate) fn outcome(number: u32) -> Result<Outcome, Refusal> {
     }
 }
 
+/// What the light repair says of a row.
+#[derive(Clone, Copy, Debug, PartialEq, Eq, Hash)]
+pub enum LightOutcome {
+    /// A code row differs in at most two bytes, and the row is that now. A code row is repaired to itself.
+    Repaired,
+    /// No code row is that near, and the row stays.
+    Heavier,
+}
+
+pub(crate) fn light_outcome(number: u32) -> Result<LightOutcome, Refusal> {
+    match number {
+        raw::HEAVIER => Ok(LightOutcome::Heavier),
+        other => answer(other, 0).map(|()| LightOutcome::Repaired),
+    }
+}
+
 /// The answer of a call whose lengths the types fix.
 pub(crate) fn stated<T>(result: Result<T, Refusal>) -> T {
     result.expect("the lengths are those stated")
@@ -101,6 +117,25 @@ pub fn correct_row(row: &mut [u8; ROW], erasures: &[u8; ROW]) -> Result<Outcome,
 /// ```
 pub fn correct_column(column: &mut [u8; COLUMN]) -> Outcome {
     stated(slices::correct_column(column))
+}
+
+/// The light repair, by the formulas that a student follows with pencil and paper: a row without marks becomes the one code row within two bytes, or stays and is
+/// heavier. Where it repairs, [`correct_row`] without marks gives the same row.
+///
+/// ```
+/// use chamanzil::{correct_light_row, LightOutcome};
+/// let mut row = [0; 182]; // zeros are a code row
+/// row[..2].fill(9);
+/// assert_eq!(correct_light_row(&mut row), LightOutcome::Repaired);
+/// assert_eq!(row, [0; 182]);
+/// assert_eq!(correct_light_row(&mut row), LightOutcome::Repaired);
+///
+/// row[..3].fill(9);
+/// assert_eq!(correct_light_row(&mut row), LightOutcome::Heavier);
+/// assert_eq!(row[..4], [9, 9, 9, 0]);
+/// ```
+pub fn correct_light_row(row: &mut [u8; ROW]) -> LightOutcome {
+    stated(slices::correct_light_row(row))
 }
 
 /// The byte that a Code Word stands for where the 16 bits `following` come after it, if it is in the tables.

@@ -3,7 +3,7 @@
 mod common;
 
 use chamanzil::slices;
-use chamanzil::{Outcome, Record, Refusal};
+use chamanzil::{LightOutcome, Outcome, Record, Refusal};
 use chamanzil::{
     BLOCK, BLOCK_STREAM, CLOSING, MAIN, RUN_SECTORS, SECTOR, SECTOR_READ, SECTOR_STREAM, STREAM,
 };
@@ -301,6 +301,9 @@ fn rows_columns_and_words() {
         slices::ied(id.lend(), out.lend())
     });
     sweep(&[208], |b| slices::correct_column(b[0].lend()).map(|_| ()));
+    sweep(&[182], |b| {
+        slices::correct_light_row(b[0].lend()).map(|_| ())
+    });
     rounds(200, &[172, 10, 192, 16, 4, 2, 208], |b, _, numbers| {
         let [row, ten, column, sixteen, id, two, whole_column] = b else {
             unreachable!()
@@ -342,6 +345,27 @@ fn rows_with_marks() {
         assert!(erasures.lend() == marks, "the marks are only read");
         assert_eq!(outcome == Outcome::Corrected, row.lend() != was);
         assert!(count_marks(&marks) <= 10 || outcome == Outcome::Uncorrectable);
+    });
+}
+
+/// Rows of zeros, which are a code row, with none to four wrong bytes.
+#[test]
+fn light_rows() {
+    rounds(600, &[182], |b, _, numbers| {
+        let row = b[0].lend();
+        row.fill(0);
+        let wrong = numbers.below(5);
+        for (i, value) in [3, 7, 1, 9][..wrong].iter().enumerate() {
+            row[(numbers.below(40) + 45 * i) % 182] = *value;
+        }
+        let was = row.to_vec();
+        let outcome = slices::correct_light_row(row).unwrap();
+        let (due, after) = if wrong <= 2 {
+            (LightOutcome::Repaired, vec![0; 182])
+        } else {
+            (LightOutcome::Heavier, was)
+        };
+        assert_eq!((outcome, row.to_vec()), (due, after), "{wrong} wrong");
     });
 }
 

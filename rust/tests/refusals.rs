@@ -107,6 +107,12 @@ fn length_1_of_sectors_and_words() {
         slices::correct_column(&mut out[..207]),
         Err(Refusal::Length)
     );
+    for row in [0, 181, 183, 208] {
+        assert_eq!(
+            slices::correct_light_row(&mut out[..row]),
+            Err(Refusal::Length)
+        );
+    }
     assert_eq!(
         (out, erasures, two),
         (vec![OLD; MAIN], vec![OLD; SECTOR + 1], [7; 2])

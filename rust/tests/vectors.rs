@@ -1,8 +1,8 @@
 //! Blocks and streams of a second formatter, written from the papers alone: crates/trials/data and tests/data/vectors.
 mod common;
 
-use chamanzil::{correct_row, encode_block, format_block, read_block, slices};
-use chamanzil::{Outcome, Record, Writer};
+use chamanzil::{correct_light_row, correct_row, encode_block, format_block, read_block, slices};
+use chamanzil::{LightOutcome, Outcome, Record, Writer};
 use chamanzil::{BLOCK, BLOCK_STREAM, CLOSING, MAIN, ROW, SECTOR, SECTOR_STREAM, STREAM};
 use common::{buffer, stream_of};
 use std::fs;
@@ -108,6 +108,34 @@ fn rows() {
         seen[kind] += 1;
     }
     assert_eq!(seen, [8, 31, 26]);
+}
+
+/// Rows of the light repair: row, `repaired` or `heavier`, row after. What it repairs, the general repair without marks gives too.
+#[test]
+fn light_rows() {
+    let list = fs::read_to_string(path("tests/data/vectors/light.txt")).unwrap();
+    let mut seen = [0; 2];
+    for line in list.lines() {
+        let words: Vec<&str> = line.split(' ').collect();
+        let [row, said, after] = words[..] else {
+            panic!("{line}")
+        };
+        let (mut light, mut general) = (row_of(row), row_of(row));
+        let outcome = correct_light_row(&mut light);
+        let (due, kind) = match said {
+            "repaired" => (LightOutcome::Repaired, 0),
+            "heavier" => (LightOutcome::Heavier, 1),
+            _ => panic!("{line}"),
+        };
+        assert_eq!((outcome, light), (due, row_of(after)), "{line}");
+        correct_row(&mut general, &[0; ROW]).unwrap();
+        assert!(
+            outcome == LightOutcome::Heavier || general == light,
+            "{line}"
+        );
+        seen[kind] += 1;
+    }
+    assert_eq!(seen, [15, 25]);
 }
 
 /// Closing codes around the point where the choice tips, from every State at both levels.
