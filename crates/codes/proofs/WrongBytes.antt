@@ -19,7 +19,7 @@ use Rattle.field.specs.Field.{add, mul, pow}
 use Rattle.field.proofs.Field.{add-assoc, add-comm, add-left-comm, add-self, add-zero, zero-add, add-lt, add-mul, zero-mul}
 use Rattle.codes.specs.Word.{syndrome}
 use Rattle.codes.specs.Parity.{addWords}
-use Rattle.codes.specs.Inner.{change, sumOf, SumsOf, Inside, Explains, InOrder, Unexplained, withoutWrong}
+use Rattle.codes.specs.Inner.{change, sumOf, Inside, Explains, InOrder, Unexplained, withoutWrong}
 use Rattle.codes.specs.declared.WrongByte.{WrongByte}
 use Rattle.codes.specs.declared.LightOutcome.the-variants.{Repaired, Heavier}
 use Rattle.codes.proofs.Words.{weight, syndrome-cons, syndrome-nil, syndrome-add, addWords-length, addWords-bytes}

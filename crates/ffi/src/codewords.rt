@@ -188,8 +188,8 @@ pub extern "C" fn chamanzil_correct_light_row(row: &mut [u8]) -> u32
         bytes,
         outcome: LightOutcome::Heavier,
     });
-    let near = repaired.bytes;
-    bytes::put(row, 0, &near);
+    let right = repaired.bytes;
+    bytes::put(row, 0, &right);
     let outcome = repaired.outcome;
     light_number(outcome)
 }

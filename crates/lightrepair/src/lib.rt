@@ -4,8 +4,6 @@ mod formulas;
 mod row;
 
 pub use codes::LightOutcome;
-pub use codes::WrongByte;
-pub use formulas::Errors;
 pub use row::LightRow;
 pub use row::correct_light_row;
 pub use row::correct_light_row_from;

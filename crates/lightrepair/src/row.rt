@@ -8,9 +8,9 @@ ghost use Rattle.codes.specs.Nearest.{nearest};
 ghost use Rattle.codes.specs.Light.{lightOutcome};
 ghost use Rattle.codes.specs.Inner.{change};
 ghost use Rattle.layout.specs.Lengths.{rowSize, innerSize};
+use crate::formulas::Errors;
 use codes::LightOutcome;
 use codes::WrongByte;
-use crate::formulas::Errors;
 use layout::INNER_SIZE;
 use layout::ROW_SIZE;
 
@@ -51,11 +51,7 @@ fn repaired(bytes: [u8; ROW_SIZE]) -> LightRow
 }
 
 // The light repair of a row whose ten sums are known, over a lent table of logarithms. The sums alone decide.
-pub fn correct_light_row_from(
-    logs: &[u8; 768],
-    sums: [u8; INNER_SIZE],
-    row: LightRow,
-) -> LightRow
+pub fn correct_light_row_from(logs: &[u8; 768], sums: [u8; INNER_SIZE], row: LightRow) -> LightRow
     requires { ⌜ LogTable (now logs) × (sums ≡ tabulate (syndrome (row .bytes)) innerSize) ⌝ }
     ensures { λ r. ⌜ r .bytes ≡ nearest innerSize 2 (row .bytes) ⌝ }
     ensures { λ r. ⌜ r .outcome ≡ lightOutcome innerSize 2 (row .bytes) ⌝ }

@@ -107,9 +107,10 @@ module _ {n : ℕ} (r : ℕ) (shape : Shape n (r + r)) (w : List ℕ) (size : le
       (t : ℕ) → t ≤ r → (y : List ℕ) (o : LightOutcome) → LightRepaired (r + r) t w y o → o ≡ Light.Repaired
       → (s : List ℕ) → s ≡ tabulate (syndrome w) (r + r) → allZero s ≡ false → Repaired (r + r) m w y Corrected
   word-light t more y o light said s ss dirty =
-      let e : lightOutcome (r + r) t w ≡ Light.Repaired = sym (light .1) ∙ said in
-      (light .0 ∙ sym (light-unmarked t r more m w hw short nothing e),
-      sym (light-corrected t r more m w hw short nothing e (sym (allZero-isCode (r + r) w s ss) ∙ dirty)))
+      let e : lightOutcome (r + r) t w ≡ Light.Repaired = sym (light .1) ∙ said in (
+        light .0 ∙ sym (light-unmarked t r more m w hw short nothing e),
+        sym (light-corrected t r more m w hw short nothing e (sym (allZero-isCode (r + r) w s ss) ∙ dirty)),
+      )
 
 -- THE LIGHT REPAIR AND THE GENERAL ONE: where it repairs a row, the row is what the general repair gives of it without marks; and so is a column
 pub row-light :

@@ -166,20 +166,14 @@ pub fn correct_row_from(
         return Row { bytes, outcome };
     }
     if marked == 0 {
-        let heavier = LightOutcome::Heavier;
-        let start = LightRow {
-            bytes,
-            outcome: heavier,
-        };
-        let light = lightrepair::correct_light_row_from(logs, syndromes, start);
-        let near = light.bytes;
+        let outcome = LightOutcome::Heavier;
+        let given = LightRow { bytes, outcome };
+        let light = lightrepair::correct_light_row_from(logs, syndromes, given);
         let said = light.outcome;
         if let LightOutcome::Repaired = said {
+            let bytes = light.bytes;
             let outcome = Outcome::Corrected;
-            return Row {
-                bytes: near,
-                outcome,
-            };
+            return Row { bytes, outcome };
         }
     }
     correct_row_located(logs, table, erasures, marked, syndromes, bytes)

@@ -56,9 +56,10 @@ returns c =
     let third = last .before in
     let top = third .before in
     let first = top .before in
-    let start = first .before in
-    (second .quotient .ensures ∙ ap₂ (λ (n d : ℕ). mul n (inverse d)) (ap₂ add (first .product .ensures) (top .product2 .ensures)) (start .pre .1),
-    c .quotient2 .ensures ∙ ap₂ (λ (n d : ℕ). mul n (inverse d)) (ap₂ add (third .product3 .ensures) (last .product4 .ensures)) (start .pre .1))
+    let start = first .before in (
+      second .quotient .ensures ∙ ap₂ (λ (n d : ℕ). mul n (inverse d)) (ap₂ add (first .product .ensures) (top .product2 .ensures)) (start .pre .1),
+      c .quotient2 .ensures ∙ ap₂ (λ (n d : ℕ). mul n (inverse d)) (ap₂ add (third .product3 .ensures) (last .product4 .ensures)) (start .pre .1),
+    )
 
 pub equations-solved-spec : {M : Type 1} → statement M
 equations-solved-spec =

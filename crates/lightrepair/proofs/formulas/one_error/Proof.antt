@@ -75,10 +75,11 @@ logarithm-requires : tie.Need-logarithm-requires
 logarithm-requires c κs =
     let divided = c .before .before in
     let start = divided .before .before .before in
-    let s = start .args .t2 in
-    (start .pre,
-    subst (λ (x : ℕ). 0 < x) (sym (divided .quotient .ensures))
-    (over-nonzero (at s 1) (at s 0) (small start 1) (small start 0) (divided .before .if2 .left) (divided .before .before .if1 .left)))
+    let s = start .args .t2 in (
+      start .pre,
+      subst (λ (x : ℕ). 0 < x) (sym (divided .quotient .ensures))
+          (over-nonzero (at s 1) (at s 0) (small start 1) (small start 0) (divided .before .if2 .left) (divided .before .before .if1 .left)),
+    )
 
 index-requires : tie.Need-index-requires
 index-requires c κs = search needs

@@ -83,9 +83,10 @@ logarithm-requires : tie.Need-logarithm-requires
 unfolding add
 logarithm-requires c κs =
     let found = c .before .before .before in
-    let start = found .before in
-    (start .pre .0,
-    other-nonzero (start .args .a) (start .args .b) (c .alpha-power .result) (ap (λ (x : ℕ). mul x (add x (start .args .a))) (c .alpha-power .ensures) ∙ root c) (start .pre .2))
+    let start = found .before in (
+      start .pre .0,
+      other-nonzero (start .args .a) (start .args .b) (c .alpha-power .result) (ap (λ (x : ℕ). mul x (add x (start .args .a))) (c .alpha-power .ensures) ∙ root c) (start .pre .2),
+    )
 
 index-requires-2 : tie.Need-index-requires-2
 index-requires-2 c κs = search needs

@@ -74,12 +74,13 @@ enum-told c = search needs
 
 returns-3 : tie.Need-returns-3
 returns-3 c =
-    let light = c .before .before .before in
+    let repaired = c .before in
+    let light = repaired .before .before in
     let dirty = light .before .before in
     let fit = dirty .before .before .before in
     let start = fit .before .before .before .before in
     word-light 5 row-shape _ (size start) (bytes start) _ _ (counted start _ (fit .before .count-erasures .ensures)) (light .before .if3 .taken)
-    2 (omega arith) _ _ (light .correct-light-row-from .ensures) (c .enum-told .given .1)
+    2 (omega arith) _ _ (light .correct-light-row-from .ensures) (repaired .enum-told .given .1)
     _ (start .pre .3) (sym (dirty .before .all-zero .ensures) ∙ dirty .if2 .left)
 
 enum-told-2 : tie.Need-enum-told-2
@@ -89,9 +90,15 @@ correct-row-located-requires : tie.Need-correct-row-located-requires
 correct-row-located-requires c κs =
     let dirty = c .before in
     let fit = dirty .before .before .before in
-    let start = fit .before .before .before .before in
-    (start .pre .0, start .pre .1, start .pre .2, counted start _ (fit .before .count-erasures .ensures), omega arith, start .pre .3,
-    sym (dirty .before .all-zero .ensures) ∙ dirty .if2 .left)
+    let start = fit .before .before .before .before in (
+      start .pre .0,
+      start .pre .1,
+      start .pre .2,
+      counted start _ (fit .before .count-erasures .ensures),
+      omega arith,
+      start .pre .3,
+      sym (dirty .before .all-zero .ensures) ∙ dirty .if2 .left,
+    )
 
 returns-4 : tie.Need-returns-4
 returns-4 c = search needs
