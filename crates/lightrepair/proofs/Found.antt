@@ -1,4 +1,5 @@
--- What the formulas find explains the sums, whichever of them found it; where one finds nothing, what it says then holds.
+-- What the formulas find explains the sums, whichever of them found it; where one finds nothing, what it says then holds (found-weaker, found-told, found-more). What
+-- explains none of a row's sums (none-explains, no-one, no-two, heavier).
 -- Assumes nothing.
 use mathlib.Core.Path.{_≡_, sym, _∙_}
 use mathlib.Core.Bool.{true, false, false≢true}
@@ -14,6 +15,9 @@ use lib.ListN.{length, getD}
 use Rattle.lists.proofs.Test.{truth, truth-of, below-at, below-all}
 use Rattle.codes.specs.Word.{allZero}
 use Rattle.codes.specs.Inner.{at, sumOf, Inside, Explains, Unexplained}
+use Rattle.codes.specs.declared.WrongByte.{WrongByte}
+use Rattle.codes.proofs.Formulas.{OneWrong, TwoWrong, unexplained-one, unexplained-two}
+use Rattle.layout.specs.Lengths.{rowSize, innerSize}
 use Rattle.lightrepair.specs.Inner.{Found, Heavier}
 use Rattle.lightrepair.specs.declared.formulas.Errors.{Errors}
 use Rattle.lightrepair.specs.declared.formulas.Errors.the-variants.{None, One, Two, More}
@@ -65,3 +69,14 @@ module _ (s : List ℕ) (p n : ℕ) (size : length s ≡ p) where
   heavier nz one two (suc zero) l = one
   heavier nz one two (suc (suc zero)) l = two
   heavier nz one two (suc (suc (suc m))) l = absurd (omega arith)
+
+-- ---- the ten sums of a row
+
+-- no one wrong byte explains sums that are not as its formulas give them
+pub no-one : (s : List ℕ) → ((e : WrongByte) → e .place < rowSize → OneWrong (at s) innerSize e → ⊥) → Unexplained (at s) innerSize rowSize 1
+no-one s = unexplained-one (at s) innerSize rowSize (omega arith)
+
+-- nor do two
+pub no-two :
+    (s : List ℕ) → ((e f : WrongByte) → e .place < rowSize → f .place < rowSize → TwoWrong (at s) innerSize e f → ⊥) → Unexplained (at s) innerSize rowSize 2
+no-two s = unexplained-two (at s) innerSize rowSize (omega arith) (omega arith)

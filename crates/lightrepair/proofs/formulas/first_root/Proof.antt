@@ -9,6 +9,7 @@ use borrow.Author.Needs.{needs}
 use borrow.Author.Tests.{eq-eqb, ne-eqb}
 use Rattle.field.specs.Field.{add, mul, pow}
 use Rattle.codes.specs.Inner.{isLocator}
+use Rattle.layout.specs.Lengths.{rowSize}
 use Rattle.lightrepair.proofs.formulas.first_root.Statement.{statement}
 use Rattle.lightrepair.proofs.formulas.first_root.Tie as tie
 use Rattle.lightrepair.proofs.formulas.first_root.Reads as reads
@@ -18,10 +19,10 @@ use Rattle.field.proofs.alpha_power.Reads as alpha-power-reads
 use Rattle.field.proofs.product.Reads as product-reads
 
 abbrev Inv-loop : tie.InvT-loop
-Inv-loop logs a b k₀ k = (k ≤ 182) × ((j : ℕ) → j < k → isLocator a b (pow 2 j) ≡ false)
+Inv-loop logs a b k₀ k = (k ≤ rowSize) × ((j : ℕ) → j < k → isLocator a b (pow 2 j) ≡ false)
 
 abbrev μ-loop : tie.MeasureT-loop
-μ-loop logs a b k₀ k = 182 - k
+μ-loop logs a b k₀ k = rowSize - k
 
 loop-holds : tie.Need-loop-holds Inv-loop μ-loop
 loop-holds c = (omega arith, λ j l. absurd (omega arith))
@@ -78,7 +79,10 @@ loop-again c =
     let turn = tried .before .before .before .before in
     let a = turn .before .args in
     let l = turn .loop in
-    (omega arith, λ j h. dite (ℕ-discrete j (l .k)) (λ q. ap (λ (i : ℕ). isLocator (a .a) (a .b) (pow 2 i)) q ∙ ne-eqb (mul (pow 2 (l .k)) (add (pow 2 (l .k)) (a .a))) (a .b) (λ e. c .if2 .left (value tried ∙ e))) (λ q. l .inv .1 j (omega (arith, q))))
+    let here = ne-eqb (mul (pow 2 (l .k)) (add (pow 2 (l .k)) (a .a))) (a .b) (λ e. c .if2 .left (value tried ∙ e)) in (
+      omega arith,
+      λ j h. dite (ℕ-discrete j (l .k)) (λ q. ap (λ (i : ℕ). isLocator (a .a) (a .b) (pow 2 i)) q ∙ here) (λ q. l .inv .1 j (omega (arith, q))),
+    )
 
 returns-2 : tie.Need-returns-2 Inv-loop μ-loop
 returns-2 c =

@@ -11,7 +11,9 @@ use borrow.Author.Tests.{not-true, not-false}
 use Rattle.lists.proofs.Bytes.{bytes-of, getD-byte}
 use Rattle.field.proofs.Tables.{same-logarithm}
 use Rattle.codes.specs.Inner.{at, follows}
-use Rattle.codes.proofs.Formulas.{over-nonzero, one-found, unexplained-one}
+use Rattle.codes.proofs.Formulas.{over-nonzero, one-found}
+use Rattle.layout.specs.Lengths.{rowSize, innerSize}
+use Rattle.lightrepair.proofs.Found.{no-one}
 use Rattle.lightrepair.proofs.formulas.one_error.Statement.{statement}
 use Rattle.lightrepair.proofs.formulas.one_error.Tie as tie
 use Rattle.lightrepair.proofs.formulas.one_error.Reads as reads
@@ -45,7 +47,7 @@ array-read-value c = search needs
 returns : tie.Need-returns
 returns c =
     let s = c .before .args .t2 in
-    unexplained-one (at s) 10 182 (omega arith) (λ e l w. w .first (c .if1 .taken))
+    no-one s (λ e l w. w .first (c .if1 .taken))
 
 array-read-if2 : tie.Need-array-read-if2
 array-read-if2 c = search needs
@@ -53,7 +55,7 @@ array-read-if2 c = search needs
 returns-2 : tie.Need-returns-2
 returns-2 c =
     let s = c .before .before .args .t2 in
-    unexplained-one (at s) 10 182 (omega arith) (λ e l w. w .second (c .if2 .taken))
+    no-one s (λ e l w. w .second (c .if2 .taken))
 
 array-read-quotient : tie.Need-array-read-quotient
 array-read-quotient c = search needs
@@ -68,8 +70,10 @@ returns-3 : tie.Need-returns-3
 returns-3 c =
     let divided = c .before .before in
     let s = divided .before .before .before .args .t2 in
-    unexplained-one (at s) 10 182 (omega arith)
-    (λ e l w. false≢true (sym (not-true _ (c .if3 .taken)) ∙ c .before .sums-follow .ensures ∙ ap (λ (x : ℕ). follows (at s) 10 x 0) (divided .quotient .ensures) ∙ w .follow))
+    no-one s
+    (λ e l w. false≢true
+    (sym (not-true _ (c .if3 .taken)) ∙ c .before .sums-follow .ensures
+    ∙ ap (λ (x : ℕ). follows (at s) innerSize x 0) (divided .quotient .ensures) ∙ w .follow))
 
 logarithm-requires : tie.Need-logarithm-requires
 logarithm-requires c κs =
@@ -89,7 +93,7 @@ returns-4 c =
     let logged = c .before .before in
     let divided = logged .before .before .before in
     let s = divided .before .before .before .args .t2 in
-    unexplained-one (at s) 10 182 (omega arith)
+    no-one s
     (λ e l w. omega (
       arith,
       l,
@@ -102,9 +106,10 @@ returns-5 c =
     let logged = c .before .before in
     let divided = logged .before .before .before in
     let s = divided .before .before .before .args .t2 in
-    one-found (at s) 10 182 (small (divided .before .before .before)) (logged .logarithm .result) (divided .before .before .if1 .left) (omega arith)
+    one-found (at s) innerSize rowSize (small (divided .before .before .before)) (logged .logarithm .result) (divided .before .before .if1 .left) (omega arith)
     (logged .logarithm .ensures .0 ∙ divided .quotient .ensures)
-    (ap (λ (x : ℕ). follows (at s) 10 x 0) (sym (divided .quotient .ensures)) ∙ sym (logged .before .before .sums-follow .ensures) ∙ not-false _ (logged .before .if3 .left))
+    (ap (λ (x : ℕ). follows (at s) innerSize x 0) (sym (divided .quotient .ensures))
+    ∙ sym (logged .before .before .sums-follow .ensures) ∙ not-false _ (logged .before .if3 .left))
 
 pub one-error-spec : {M : Type 1} → statement M
 one-error-spec =

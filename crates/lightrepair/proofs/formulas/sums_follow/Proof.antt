@@ -9,15 +9,16 @@ use lib.ListN.{getD}
 use Rattle.field.specs.Field.{add, mul}
 use Rattle.codes.specs.Inner.{at}
 use Rattle.codes.proofs.Formulas.{follows-true, follows-false}
+use Rattle.layout.specs.Lengths.{innerSize}
 use Rattle.lightrepair.proofs.formulas.sums_follow.Statement.{statement}
 use Rattle.lightrepair.proofs.formulas.sums_follow.Tie as tie
 
 abbrev Inv-loop : tie.InvT-loop
 Inv-loop logs a b sums i₀ i =
-    (i ≤ 8) × ((j : ℕ) → j < i → getD sums (j + 2) 0 ≡ add (mul a (getD sums (j + 1) 0)) (mul b (getD sums j 0)))
+    (i ≤ innerSize - 2) × ((j : ℕ) → j < i → getD sums (j + 2) 0 ≡ add (mul a (getD sums (j + 1) 0)) (mul b (getD sums j 0)))
 
 abbrev μ-loop : tie.MeasureT-loop
-μ-loop logs a b sums i₀ i = 8 - i
+μ-loop logs a b sums i₀ i = innerSize - 2 - i
 
 loop-holds : tie.Need-loop-holds Inv-loop μ-loop
 loop-holds c = (omega arith, λ j l. absurd (omega arith))
@@ -52,7 +53,7 @@ returns c =
     let added = c .before in
     let turn = added .before .before .before in
     let a = turn .before .args in
-    sym (follows-false (at (a .t2)) 10 (a .a) (a .b) (turn .loop .i) (omega arith)
+    sym (follows-false (at (a .t2)) innerSize (a .a) (a .b) (turn .loop .i) (omega arith)
     (λ e. c .if1 .taken (e ∙ sym (ap₂ add (added .before .product .ensures) (added .product2 .ensures)))))
 
 add-i : tie.Need-add-i Inv-loop μ-loop
@@ -66,15 +67,14 @@ unfolding add
 loop-again c =
     let added = c .before in
     let turn = added .before .before .before in
-    let l = turn .loop in (
-      omega arith,
-      λ j h. dite (ℕ-discrete j (l .i)) (λ q. rw q (c .if1 .left ∙ ap₂ add (added .before .product .ensures) (added .product2 .ensures))) (λ q. l .inv .1 j (omega (arith, q))),
-    )
+    let l = turn .loop in
+    let here = c .if1 .left ∙ ap₂ add (added .before .product .ensures) (added .product2 .ensures) in
+    (omega arith, λ j h. dite (ℕ-discrete j (l .i)) (λ q. rw q here) (λ q. l .inv .1 j (omega (arith, q))))
 
 returns-2 : tie.Need-returns-2 Inv-loop μ-loop
 returns-2 c =
     let a = c .before .before .args in
-    sym (follows-true (at (a .t2)) 10 (a .a) (a .b) (λ i h. c .before .loop .inv .1 i (omega arith)))
+    sym (follows-true (at (a .t2)) innerSize (a .a) (a .b) (λ i h. c .before .loop .inv .1 i (omega arith)))
 
 pub sums-follow-spec : {M : Type 1} → statement M
 sums-follow-spec =

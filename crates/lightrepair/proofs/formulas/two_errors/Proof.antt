@@ -5,8 +5,8 @@ use native.Mathlib.Omega.{arith}
 use borrow.Author.Needs.{needs}
 use borrow.Author.Tests.{not-true, not-false}
 use Rattle.codes.specs.Inner.{at, follows}
-use Rattle.codes.proofs.Formulas.{unexplained-two}
-use Rattle.lightrepair.proofs.Found.{found-weaker}
+use Rattle.layout.specs.Lengths.{rowSize, innerSize}
+use Rattle.lightrepair.proofs.Found.{found-weaker, no-two}
 use Rattle.lightrepair.proofs.formulas.two_errors.Statement.{statement}
 use Rattle.lightrepair.proofs.formulas.two_errors.Tie as tie
 
@@ -16,7 +16,7 @@ equations-determinant-requires c κs = search needs
 returns : tie.Need-returns
 returns c =
     let s = c .before .before .args .sums in
-    unexplained-two (at s) 10 182 (omega arith) (omega arith) (λ e f k l w. w .regular (sym (c .before .equations-determinant .ensures) ∙ c .if1 .taken))
+    no-two s (λ e f k l w. w .regular (sym (c .before .equations-determinant .ensures) ∙ c .if1 .taken))
 
 equations-solved-requires : tie.Need-equations-solved-requires
 equations-solved-requires c κs = search needs
@@ -25,14 +25,14 @@ returns-2 : tie.Need-returns-2
 returns-2 c =
     let solved = c .before in
     let s = solved .before .before .before .args .sums in
-    unexplained-two (at s) 10 182 (omega arith) (omega arith)
+    no-two s
     (λ e f k l w. w .apart (sym (w .sum) ∙ sym (solved .equations-solved .ensures .0) ∙ c .if2 .taken))
 
 returns-3 : tie.Need-returns-3
 returns-3 c =
     let solved = c .before .before in
     let s = solved .before .before .before .args .sums in
-    unexplained-two (at s) 10 182 (omega arith) (omega arith)
+    no-two s
     (λ e f k l w. w .solid (sym (w .product) ∙ sym (solved .equations-solved .ensures .1) ∙ c .if3 .taken))
 
 sums-follow-requires : tie.Need-sums-follow-requires
@@ -42,10 +42,10 @@ returns-4 : tie.Need-returns-4
 returns-4 c =
     let solved = c .before .before .before .before in
     let s = solved .before .before .before .args .sums in
-    unexplained-two (at s) 10 182 (omega arith) (omega arith)
+    no-two s
     (λ e f k l w. false≢true
     (sym (not-true _ (c .if4 .taken)) ∙ c .before .sums-follow .ensures
-    ∙ ap₂ (follows (at s) 10) (solved .equations-solved .ensures .0) (solved .equations-solved .ensures .1) ∙ w .follow))
+    ∙ ap₂ (follows (at s) innerSize) (solved .equations-solved .ensures .0) (solved .equations-solved .ensures .1) ∙ w .follow))
 
 two-places-requires : tie.Need-two-places-requires
 two-places-requires c κs =
@@ -57,8 +57,8 @@ returns-5 : tie.Need-returns-5
 returns-5 c =
     let solved = c .before .before .before .before .before in
     let s = solved .before .before .before .args .sums in
-    found-weaker (at s) 10 182 _ _
-    (λ none. unexplained-two (at s) 10 182 (omega arith) (omega arith)
+    found-weaker (at s) innerSize rowSize _ _
+    (λ none. no-two s
     (λ e f k l w. none (e .place) (f .place) k l (solved .equations-solved .ensures .0 ∙ w .sum) (solved .equations-solved .ensures .1 ∙ w .product)))
     (c .two-places .result) (c .two-places .ensures)
 

@@ -16,7 +16,7 @@ use Rattle.codes.specs.declared.WrongByte.{WrongByte}
 use Rattle.codes.specs.declared.LightOutcome.the-variants.{Repaired}
 use Rattle.codes.proofs.Light.{LightRepaired}
 use Rattle.codes.proofs.WrongBytes.{explained, unexplained}
-use Rattle.layout.specs.Lengths.{rowSize}
+use Rattle.layout.specs.Lengths.{rowSize, innerSize}
 use Rattle.lightrepair.specs.Inner.{Found, Heavier}
 use Rattle.lightrepair.specs.declared.formulas.Errors.{Errors}
 use Rattle.lightrepair.proofs.row.correct_light_row_from.Statement.{statement}
@@ -48,24 +48,25 @@ bytes asked =
     let w = asked .before .before .args .row .bytes in
     bytes-of w (λ i l. let f : Fits w8 (getD w i 0) = search needs in omega arith)
 
-sums : (asked : Asked) (i : ℕ) → i < 10 → at (asked .before .before .args .sums) i ≡ syndrome (asked .before .before .args .row .bytes) i
+sums : (asked : Asked) (i : ℕ) → i < innerSize → at (asked .before .before .args .sums) i ≡ syndrome (asked .before .before .args .row .bytes) i
 sums asked i l =
     let w = asked .before .before .args .row .bytes in
-    ap (λ (s : List ℕ). at s i) (asked .before .before .pre .1) ∙ getD-tabulate (syndrome w) 10 i l
+    ap (λ (s : List ℕ). at s i) (asked .before .before .pre .1) ∙ getD-tabulate (syndrome w) innerSize i l
 
 told : (asked : Asked) (r : Errors) → asked .find-errors .result ≡ r
     → let s = asked .before .before .args .sums in
-    Found (Heavier (at s) 10 182) (at s) 10 182 r
-told asked r e = let s = asked .before .before .args .sums in subst (Found (Heavier (at s) 10 182) (at s) 10 182) e (asked .find-errors .ensures)
+    Found (Heavier (at s) innerSize rowSize) (at s) innerSize rowSize r
+told asked r e = let s = asked .before .before .args .sums in subst (Found (Heavier (at s) innerSize rowSize) (at s) innerSize rowSize) e (asked .find-errors .ensures)
 
 -- wrong bytes that explain the sums are taken away
 mended : (asked : Asked) (es : List WrongByte)
     → let start = asked .before .before in
-    Explains (at (start .args .sums)) 10 182 es → length es ≤ 2 → LightRepaired 10 2 (start .args .row .bytes) (withoutWrong es (start .args .row .bytes)) Repaired
+    let w = start .args .row .bytes in
+    Explains (at (start .args .sums)) innerSize rowSize es → length es ≤ 2 → LightRepaired innerSize 2 w (withoutWrong es w) Repaired
 mended asked es ex few =
     let start = asked .before .before in
-    explained 10 2 (start .args .row .bytes) (bytes asked) (at (start .args .sums)) (sums asked) (omega (arith, size asked)) (omega arith) es
-    (subst (λ (n : ℕ). Explains (at (start .args .sums)) 10 n es) (sym (size asked)) ex) few
+    explained innerSize 2 (start .args .row .bytes) (bytes asked) (at (start .args .sums)) (sums asked) (omega (arith, size asked)) (omega arith) es
+    (subst (λ (n : ℕ). Explains (at (start .args .sums)) innerSize n es) (sym (size asked)) ex) few
 
 find-errors-requires : tie.Need-find-errors-requires
 find-errors-requires c κs = search needs
@@ -134,14 +135,15 @@ returns-3 c =
     let asked = two .before .before in
     let last = two .errors2 .given .0 .1 .0 in
     let right = mended asked _ (told asked _ (two .errors2 .given .1)) (omega arith) in
-    (c .repaired3 .ensures .0 ∙ second .without-error3 .ensures ∙ ap (λ (w : List ℕ). change w (last .place) (last .value)) (first .without-error2 .ensures) ∙ right .0, c .repaired3 .ensures .1 ∙ right .1)
+    let without = second .without-error3 .ensures ∙ ap (λ (w : List ℕ). change w (last .place) (last .value)) (first .without-error2 .ensures) in
+    (c .repaired3 .ensures .0 ∙ without ∙ right .0, c .repaired3 .ensures .1 ∙ right .1)
 
 returns-4 : tie.Need-returns-4
 returns-4 c =
     let asked = c .before .before in
     let start = asked .before .before in
-    unexplained 10 2 (start .args .row .bytes) (bytes asked) (at (start .args .sums)) (sums asked)
-    (λ m l. subst (λ (n : ℕ). Unexplained (at (start .args .sums)) 10 n m) (sym (size asked)) (told asked _ (c .enum-told2 .given .1) m l))
+    unexplained innerSize 2 (start .args .row .bytes) (bytes asked) (at (start .args .sums)) (sums asked)
+    (λ m l. subst (λ (n : ℕ). Unexplained (at (start .args .sums)) innerSize n m) (sym (size asked)) (told asked _ (c .enum-told2 .given .1) m l))
 
 pub correct-light-row-from-spec : {M : Type 1} → statement M
 correct-light-row-from-spec =
