@@ -53,7 +53,8 @@ value : (tried : Tried)
     tried .product .result ≡ mul (pow 2 (turn .loop .k)) (add (pow 2 (turn .loop .k)) (turn .before .args .a))
 unfolding add
 value tried =
-    let a = tried .before .before .before .before .before .args in
+    let turn = tried .before .before .before .before in
+    let a = turn .before .args in
     tried .product .ensures ∙ ap (λ (x : ℕ). mul x (add x (a .a))) (tried .before .alpha-power .ensures)
 
 returns : tie.Need-returns Inv-loop μ-loop

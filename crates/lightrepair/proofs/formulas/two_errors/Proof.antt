@@ -55,7 +55,8 @@ two-places-requires c κs =
 
 returns-5 : tie.Need-returns-5
 returns-5 c =
-    let solved = c .before .before .before .before .before in
+    let followed = c .before .before in
+    let solved = followed .before .before .before in
     let s = solved .before .before .before .args .sums in
     found-weaker (at s) innerSize rowSize _ _
     (λ none. no-two s
