@@ -63,7 +63,7 @@ module _ (s : List ℕ) (p n : ℕ) (size : length s ≡ p) where
       false≢true (sym nz ∙ truth _ (below-all (length s) (λ i. eqb (getD s i 0) 0) (λ i l. truth-of _ (eq-eqb (getD s i 0) 0 (sums i (omega arith))))))
   none-unexplained nz (e ∷ es) l order sums = omega arith
 
-  -- no wrong byte, no one and no two explain them
+  -- neither no wrong byte nor one nor two explain them
   pub heavier : allZero s ≡ false → Unexplained (at s) p n 1 → Unexplained (at s) p n 2 → Heavier (at s) p n
   heavier nz one two zero l = none-unexplained nz
   heavier nz one two (suc zero) l = one

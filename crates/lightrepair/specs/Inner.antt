@@ -9,7 +9,7 @@ use Rattle.codes.specs.Inner.{Explains, Unexplained}
 use Rattle.lightrepair.specs.declared.formulas.Errors.{Errors}
 use Rattle.lightrepair.specs.declared.formulas.Errors.the-variants.{None, One, Two, More}
 
--- the wrong bytes that are told explain p sums of a word of n bytes; where more than two are told, `heavy` holds
+-- the wrong bytes that are told explain p sums of a word of n bytes; where more are told, `heavy` holds
 abbrev pub Found : Type 0 → (ℕ → ℕ) → ℕ → ℕ → Errors → Type 0
 Found heavy S p n None = Explains S p n []
 Found heavy S p n (One e) = Explains S p n (e ∷ [])
@@ -20,7 +20,7 @@ Found heavy S p n More = heavy
 abbrev pub NoRoots : ℕ → ℕ → ℕ → Type 0
 NoRoots a b n = (k l : ℕ) → k < n → l < n → a ≡ add (pow 2 k) (pow 2 l) → b ≡ mul (pow 2 k) (pow 2 l) → ⊥
 
--- no wrong byte, no one and no two explain p sums of a word of n bytes
+-- neither no wrong byte nor one nor two explain p sums of a word of n bytes
 abbrev pub Heavier : (ℕ → ℕ) → ℕ → ℕ → Type 0
 Heavier S p n = (m : ℕ) → m ≤ 2 → Unexplained S p n m
 

@@ -15,7 +15,7 @@ use codes::WrongByte;
 use layout::INNER_SIZE;
 use layout::ROW_SIZE;
 
-// What the sums say: no wrong byte, one, two, or more than two.
+// What the sums tell: no wrong byte, one, two, or more than the formulas that were tried explain.
 pub enum Errors {
     None,
     One(WrongByte),
