@@ -1,6 +1,8 @@
 -- The formulas of one and of two wrong bytes, from the sums alone, over length and number of sums.
---   one-found, two-found     what the formulas give explains the sums, where all of them follow from the two before them
---   OneWrong, TwoWrong       the sums of one wrong byte, and of two: what each formula gives of them
+--   one-explains, two-explain         what the formulas give explains the sums, where all of them follow from the two before them
+--   OneWrong, TwoWrong                what each formula gives of the sums of one wrong byte, and of two
+--   unexplained-one, unexplained-two  so sums of which that does not hold are not those of one wrong byte, or of two
+--   root-cases, other-inside          the roots of x² + a x + b: there are two, and where one stands among the places, where the other stands
 -- Assumes nothing.
 use mathlib.Core.Path.{_≡_, refl, sym, ap, ap₂, _∙_, _≡⟨_⟩_, _∎}
 use mathlib.Core.Bool.{true, false}
@@ -140,11 +142,11 @@ second-sum s0 s1 x v a e =
 -- S are p sums of a word of n bytes
 module _ (S : ℕ → ℕ) (p n : ℕ) (small : (i : ℕ) → S i < 256) where
   -- X = S1 / S0 is the locator of place k, S0 the value
-  pub one-found :
+  pub one-explains :
       (k : ℕ) → S 0 ≢ 0 → k < n → pow 2 k ≡ mul (S 1) (inverse (S 0)) → follows S p (mul (S 1) (inverse (S 0))) 0 ≡ true
       → Explains S p n (record { place = k; value = S 0 } ∷ [])
   unfolding Inside Roots
-  one-found k nz l ek h =
+  one-explains k nz l ek h =
       let x : ℕ = mul (S 1) (inverse (S 0)) in
       let e : WrongByte = record { place = k; value = S 0 } in
       let root : mul (pow 2 k) (add (pow 2 k) x) ≡ 0 = ap (λ (y : ℕ). mul (pow 2 k) (add y x)) ek ∙ ap (mul (pow 2 k)) (add-self x) ∙ mul-zero (pow 2 k) in
@@ -157,12 +159,12 @@ module _ (S : ℕ → ℕ) (p n : ℕ) (small : (i : ℕ) → S i < 256) where
       }
 
   -- X is the locator of place k and Y = X + a that of place l; v = (S1 + X S0) / a is the value at Y, S0 + v that at X
-  pub two-found :
+  pub two-explain :
       (a b k l v : ℕ) → a < 256 → a ≢ 0 → k < n → l < n → mul (pow 2 k) (add (pow 2 k) a) ≡ b → pow 2 l ≡ add (pow 2 k) a
       → v ≡ mul (add (S 1) (mul (pow 2 k) (S 0))) (inverse a) → follows S p a b ≡ true
       → Explains S p n (record { place = k; value = add (S 0) v } ∷ record { place = l; value = v } ∷ [])
   unfolding Inside Roots
-  two-found a b k l v ha nz hk hl root el ev h =
+  two-explain a b k l v ha nz hk hl root el ev h =
       let x : ℕ = pow 2 k in
       let top : ℕ = add (S 1) (mul x (S 0)) in
       let e : WrongByte = record { place = k; value = add (S 0) v } in

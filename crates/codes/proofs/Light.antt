@@ -25,8 +25,8 @@ use Rattle.codes.proofs.Nearest.{Chosen, chosen, kept, first-chosen, Ne
 abbrev pub LightRepaired : ℕ → ℕ → List ℕ → List ℕ → LightOutcome → Type 0
 LightRepaired p t w b o = (b ≡ nearest p t w) × (o ≡ lightOutcome p t w)
 
-differ : Repaired ≡ Heavier → ⊥
-differ e = let z : _≡_ {A = ℕ} 0 1 = cc in omega arith
+repaired≢heavier : Repaired ≡ Heavier → ⊥
+repaired≢heavier e = let z : _≡_ {A = ℕ} 0 1 = cc in omega arith
 
 module _ (p t : ℕ) (w : List ℕ) (hw : Bytes w) where
   said : Bool → LightOutcome
@@ -47,7 +47,7 @@ module _ (p t : ℕ) (w : List ℕ) (hw : Bytes w) where
     where
       go : {d : List ℕ} → Chosen (isNear p t w) w d → said (isNear p t w d) ≡ Repaired → Near p t w d
       go (chosen {c = d} k l h) e = test-near p t w hw d k l h
-      go (kept f) e = absurd (differ (sym e ∙ ap said (f w hw refl)))
+      go (kept f) e = absurd (repaired≢heavier (sym e ∙ ap said (f w hw refl)))
 
   -- none is
   pub none-heavier : ((c : List ℕ) → Near p t w c → ⊥) → LightRepaired p t w w Heavier
@@ -59,7 +59,7 @@ module _ (p t : ℕ) (w : List ℕ) (hw : Bytes w) where
       go (kept f) = (refl, sym (ap said (f w hw refl)))
 
   pub heavier-none : lightOutcome p t w ≡ Heavier → (c : List ℕ) → Near p t w c → ⊥
-  heavier-none e c n = differ (sym (near-repaired c n) ∙ e)
+  heavier-none e c n = repaired≢heavier (sym (near-repaired c n) ∙ e)
 
   -- within t bytes is within s
   pub light-general : (s : ℕ) → t ≤ s → s + s ≤ p → length w ≤ 255 → lightOutcome p t w ≡ Repaired → nearest p s w ≡ nearest p t w
@@ -70,15 +70,15 @@ module _ (p t : ℕ) (w : List ℕ) (hw : Bytes w) where
 -- s wrong bytes are put right by the general repair, and nothing is marked
 module _ (t s : ℕ) (more : t ≤ s) (m w : List ℕ) (hw : Bytes w) (short : length w ≤ 255) (unmarked : (i : ℕ) → i < length w → isErased m i ≡ false)
     (e : lightOutcome (s + s) t w ≡ Repaired) where
-  general : nearest (s + s) s w ≡ nearest (s + s) t w
-  general = light-general (s + s) t w hw s more (omega arith) short e
+  same-nearest : nearest (s + s) s w ≡ nearest (s + s) t w
+  same-nearest = light-general (s + s) t w hw s more (omega arith) short e
 
   pub light-unmarked : nearestErased (s + s) m w ≡ nearest (s + s) t w
-  light-unmarked = nearest-unmarked s m w unmarked ∙ general
+  light-unmarked = nearest-unmarked s m w unmarked ∙ same-nearest
 
   -- a word that was no code word has become one
   pub light-corrected : isCode (s + s) w ≡ false → outcomeErased (s + s) m w ≡ Corrected
   light-corrected nc =
       outcome-unmarked s m w unmarked hw
       ∙ outcome-corrected (s + s) s w hw nc
-      (ap (isCode (s + s)) general ∙ truth (isCode (s + s) (nearest (s + s) t w)) (test-of-code (s + s) (nearest (s + s) t w) (repaired-near (s + s) t w hw e .code)))
+      (ap (isCode (s + s)) same-nearest ∙ truth (isCode (s + s) (nearest (s + s) t w)) (test-of-code (s + s) (nearest (s + s) t w) (repaired-near (s + s) t w hw e .code)))

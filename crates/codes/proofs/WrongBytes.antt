@@ -1,5 +1,5 @@
--- Wrong bytes that explain the sums of a word, and the code word near it: without them it is the code word (explained), and where no t wrong bytes explain the
--- sums there is none within t (unexplained). Over length, number of roots and number of wrong bytes.
+-- Wrong bytes that explain the sums of a word, and the code word near it: without them the word is the code word (explained-repaired), and where no t wrong bytes
+-- explain the sums there is none within t (unexplained-heavier). Over length, number of roots and number of wrong bytes.
 -- Assumes nothing.
 use mathlib.Core.Path.{_≡_, refl, sym, ap, ap₂, subst, _∙_}
 use mathlib.Core.Bool.{not}
@@ -148,14 +148,14 @@ module _ (p t : ℕ) (w : List ℕ) (hw : Bytes w) (S : ℕ → ℕ) (synd : (i 
     close = omega (arith, without-distance es w (ex .inside), few);
   }
 
-  pub explained : length w ≤ 255 → t + t ≤ p → (es : List WrongByte) → Explains S p (length w) es → length es ≤ t → LightRepaired p t w (withoutWrong es w) Repaired
-  explained short room es ex few =
+  pub explained-repaired : length w ≤ 255 → t + t ≤ p → (es : List WrongByte) → Explains S p (length w) es → length es ≤ t → LightRepaired p t w (withoutWrong es w) Repaired
+  explained-repaired short room es ex few =
       let n = explained-near es ex few in
       (sym (nearest-near p t w hw short room (withoutWrong es w) n), sym (near-repaired p t w hw (withoutWrong es w) n))
 
   -- a code word near it leaves wrong bytes that explain the sums
-  pub unexplained : ((m : ℕ) → m ≤ t → Unexplained S p (length w) m) → LightRepaired p t w w Heavier
-  unexplained none = none-heavier p t w hw each
+  pub unexplained-heavier : ((m : ℕ) → m ≤ t → Unexplained S p (length w) m) → LightRepaired p t w w Heavier
+  unexplained-heavier none = none-heavier p t w hw each
     where
       each : (c : List ℕ) → Near p t w c → ⊥
       each c n =

@@ -96,9 +96,9 @@ unmarked-repaired n t w b o hw r =
 
 -- nothing is marked, and the light repair within t bytes gave y and said o
 module _ {n : ℕ} (r : ℕ) (shape : Shape n (r + r)) (w : List ℕ) (size : length w ≡ n) (hw : Bytes w) (m : List ℕ) (f : ℕ) (ef : f ≡ erasureCount m n) (none : f ≡ 0) where
-  nothing : (i : ℕ) → i < length w → isErased m i ≡ false
+  none-marked : (i : ℕ) → i < length w → isErased m i ≡ false
   unfolding erasureCount
-  nothing i l = ap (isErased m) (omega arith) ∙ none-counted (isErased m) 0 n (sym ef ∙ none) i (omega arith)
+  none-marked i l = ap (isErased m) (omega arith) ∙ none-counted (isErased m) 0 n (sym ef ∙ none) i (omega arith)
 
   short : length w ≤ 255
   short = omega (arith, shape .short)
@@ -108,8 +108,8 @@ module _ {n : ℕ} (r : ℕ) (shape : Shape n (r + r)) (w : List ℕ) (size : le
       → (s : List ℕ) → s ≡ tabulate (syndrome w) (r + r) → allZero s ≡ false → Repaired (r + r) m w y Corrected
   word-light t more y o light said s ss dirty =
       let e : lightOutcome (r + r) t w ≡ Light.Repaired = sym (light .1) ∙ said in (
-        light .0 ∙ sym (light-unmarked t r more m w hw short nothing e),
-        sym (light-corrected t r more m w hw short nothing e (sym (allZero-isCode (r + r) w s ss) ∙ dirty)),
+        light .0 ∙ sym (light-unmarked t r more m w hw short none-marked e),
+        sym (light-corrected t r more m w hw short none-marked e (sym (allZero-isCode (r + r) w s ss) ∙ dirty)),
       )
 
 -- THE LIGHT REPAIR AND THE GENERAL ONE: where it repairs a row, the row is what the general repair gives of it without marks; and so is a column

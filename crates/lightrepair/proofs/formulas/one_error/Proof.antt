@@ -11,7 +11,7 @@ use borrow.Author.Tests.{not-true, not-false}
 use Rattle.lists.proofs.Bytes.{bytes-of, getD-byte}
 use Rattle.field.proofs.Tables.{same-logarithm}
 use Rattle.codes.specs.Inner.{at, follows}
-use Rattle.codes.proofs.Formulas.{over-nonzero, one-found}
+use Rattle.codes.proofs.Formulas.{over-nonzero, one-explains}
 use Rattle.layout.specs.Lengths.{rowSize, innerSize}
 use Rattle.lightrepair.proofs.Found.{no-one}
 use Rattle.lightrepair.proofs.formulas.one_error.Statement.{statement}
@@ -106,7 +106,7 @@ returns-5 c =
     let logged = c .before .before in
     let divided = logged .before .before .before in
     let s = divided .before .before .before .args .t2 in
-    one-found (at s) innerSize rowSize (small (divided .before .before .before)) (logged .logarithm .result) (divided .before .before .if1 .left) (omega arith)
+    one-explains (at s) innerSize rowSize (small (divided .before .before .before)) (logged .logarithm .result) (divided .before .before .if1 .left) (omega arith)
     (logged .logarithm .ensures .0 ∙ divided .quotient .ensures)
     (ap (λ (x : ℕ). follows (at s) innerSize x 0) (sym (divided .quotient .ensures))
     ∙ sym (logged .before .before .sums-follow .ensures) ∙ not-false _ (logged .before .if3 .left))

@@ -12,7 +12,7 @@ use Rattle.lists.proofs.Bytes.{bytes-of, getD-byte}
 use Rattle.field.specs.Field.{add, mul, pow, inverse}
 use Rattle.field.proofs.Field.{add-cancel}
 use Rattle.codes.specs.Inner.{at}
-use Rattle.codes.proofs.Formulas.{two-found, other-inside, first-is-root, other-nonzero}
+use Rattle.codes.proofs.Formulas.{two-explain, other-inside, first-is-root, other-nonzero}
 use Rattle.layout.specs.Lengths.{rowSize, innerSize}
 use Rattle.lightrepair.proofs.formulas.two_places.Statement.{statement}
 use Rattle.lightrepair.proofs.formulas.two_places.Tie as tie
@@ -128,7 +128,7 @@ returns-3 c =
     let found = looked .before .before .before in
     let start = found .before in
     let a = start .args in
-    two-found (at (a .t2)) innerSize rowSize (small looked) (a .a) (a .b) (found .first-root .result) (logged .logarithm .result) (c .quotient .result)
+    two-explain (at (a .t2)) innerSize rowSize (small looked) (a .a) (a .b) (found .first-root .result) (logged .logarithm .result) (c .quotient .result)
     (omega arith) (λ z. omega (arith, z, start .pre .1)) (omega arith) (omega arith) (root looked)
     (other looked _ (logged .logarithm .ensures .0))
     (c .quotient .ensures

@@ -15,7 +15,7 @@ use Rattle.codes.specs.Inner.{at, change, Inside, Explains, Unexplained, withou
 use Rattle.codes.specs.declared.WrongByte.{WrongByte}
 use Rattle.codes.specs.declared.LightOutcome.the-variants.{Repaired}
 use Rattle.codes.proofs.Light.{LightRepaired}
-use Rattle.codes.proofs.WrongBytes.{explained, unexplained}
+use Rattle.codes.proofs.WrongBytes.{explained-repaired, unexplained-heavier}
 use Rattle.layout.specs.Lengths.{rowSize, innerSize}
 use Rattle.lightrepair.specs.Inner.{Found, Heavier}
 use Rattle.lightrepair.specs.declared.formulas.Errors.{Errors}
@@ -65,7 +65,7 @@ mended : (asked : Asked) (es : List WrongByte)
     Explains (at (start .args .sums)) innerSize rowSize es → length es ≤ 2 → LightRepaired innerSize 2 w (withoutWrong es w) Repaired
 mended asked es ex few =
     let start = asked .before .before in
-    explained innerSize 2 (start .args .row .bytes) (bytes asked) (at (start .args .sums)) (sums asked) (omega (arith, size asked)) (omega arith) es
+    explained-repaired innerSize 2 (start .args .row .bytes) (bytes asked) (at (start .args .sums)) (sums asked) (omega (arith, size asked)) (omega arith) es
     (subst (λ (n : ℕ). Explains (at (start .args .sums)) innerSize n es) (sym (size asked)) ex) few
 
 find-errors-requires : tie.Need-find-errors-requires
@@ -142,7 +142,7 @@ returns-4 : tie.Need-returns-4
 returns-4 c =
     let asked = c .before .before in
     let start = asked .before .before in
-    unexplained innerSize 2 (start .args .row .bytes) (bytes asked) (at (start .args .sums)) (sums asked)
+    unexplained-heavier innerSize 2 (start .args .row .bytes) (bytes asked) (at (start .args .sums)) (sums asked)
     (λ m l. subst (λ (n : ℕ). Unexplained (at (start .args .sums)) innerSize n m) (sym (size asked)) (told asked _ (c .enum-told2 .given .1) m l))
 
 pub correct-light-row-from-spec : {M : Type 1} → statement M
