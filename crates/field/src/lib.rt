@@ -55,7 +55,7 @@ pub fn quotient(logs: &[u8; 768], a: u8, b: u8) -> u8
     product(logs, a, inverse_of(logs, b))
 }
 
-// The logarithm of an element other than 0: the one power of α below 255 that is the element.
+// The logarithm of an element a other than 0: the one exponent k below 255 for which α^k is a.
 pub fn logarithm(logs: &[u8; 768], a: u8) -> u8
     requires { ⌜ LogTable (now logs) × (0 < a) ⌝ }
     ensures { λ r. ⌜ pow 2 r ≡ a ⌝ }
