@@ -161,6 +161,16 @@ uint32_t chamanzil_close(struct chamanzil_record *kept, uint8_t *out, size_t out
 uint32_t chamanzil_read_sector(const uint8_t *stream, size_t stream_len, uint8_t *out, size_t out_len, uint8_t *erasures, size_t erasures_len, uint32_t *report,
     size_t report_len);
 
+/* Two readings of one block, of two drives for instance, pooled before the repair. Each has CHAMANZIL_BLOCK bytes and as many marks, as sixteen calls of the sector
+ * reader leave them. 0, 1, or 11 after it for a mark of either reading that is neither 0 nor 1. After 0 `bytes` and `erasures` hold the pooled reading: where both
+ * are unmarked and equal, that byte; where exactly one is marked, the other's byte, unmarked; elsewhere 0, marked. After a refusal they are as they were. Which
+ * reading is the first does not matter to the result.
+ * A row in which every place is right and unmarked in at least one reading, and in which the two together have at most ten unmarked wrong bytes, comes back whole
+ * from the repairer; while at most eight rows are not like that it hands out the main data. Pooled with a very bad reading, a good one can be refused that is read
+ * alone: a wrong byte without a mark becomes a mark. */
+uint32_t chamanzil_pool(uint8_t *bytes, size_t bytes_len, uint8_t *erasures, size_t erasures_len, const uint8_t *second_bytes, size_t second_bytes_len,
+    const uint8_t *second_erasures, size_t second_erasures_len);
+
 /* The block repairer. `block` has CHAMANZIL_BLOCK bytes, sixteen answers of the sector reader; `erasures` as many, their marks; `main` CHAMANZIL_MAIN; `report`
  * CHAMANZIL_REPAIR_REPORT numbers. 0, 1, 11, 4, 5 or 6, in this order where several apply. Each row, with f marks, becomes the one code row that differs from it
  * in e bytes without a mark, 2e + f at most 10, or stays; with more than ten marks it stays and is past help, also where it is a code row. Then each of the first

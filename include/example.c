@@ -1,5 +1,5 @@
-/* Formats a block, sector by sector with trials, damages its stream and reads it back, in one call and sector by sector with the marks of unknown words, then
- * writes a run of two blocks and reads each, by the calls of chamanzil.h. Exits with 1 where anything differs from what is due. It is C99 and also C++:
+/* Formats a block, sector by sector with trials, damages its stream and reads it back, in one call, sector by sector with the marks of unknown words, and from two
+ * damaged readings pooled; then writes a run of two blocks and reads each, by the calls of chamanzil.h. Exits with 1 where anything differs from what is due. It is C99 and also C++:
  * include/run compiles it as both. */
 #include "chamanzil.h"
 
@@ -97,12 +97,12 @@ static uint32_t read_sectors(void)
     return unknown;
 }
 
-/* How many bytes of the block are marked. A mark is 0 or 1. */
-static size_t marks(void)
+/* How many bytes of the block are marked, from one on. A mark is 0 or 1. */
+static size_t marks_from(size_t at)
 {
     size_t count = 0;
     size_t i;
-    for (i = 0; i < sizeof erasures; i++) {
+    for (i = at; i < sizeof erasures; i++) {
         expect(erasures[i] <= 1, "a mark of the sector reader");
         count += erasures[i];
     }
@@ -123,7 +123,7 @@ static void repair_by_marks(void)
     uint32_t report[CHAMANZIL_REPAIR_REPORT] = {0, 0, 0, 0, 0, 0};
     memcpy(stream, whole, sizeof stream);
     memset(stream + 372 + 4, 0, 20); /* row 1, after its SYNC Code; ZEROs are no word */
-    expect(read_sectors() == 10 && marks() == 10, "the marks of ten unknown words");
+    expect(read_sectors() == 10 && marks_from(0) == 10, "the marks of ten unknown words");
     expect(erasures[CHAMANZIL_ROW] == 1 && erasures[CHAMANZIL_ROW + 9] == 1, "the places of ten unknown words");
     expect(repair(erasures, report) == CHAMANZIL_DONE && memcmp(read_main, main_data, sizeof main_data) == 0, "the block by its marks");
     expect(report[1] == 1 && report[2] == 0 && report[3] == 0, "the row comes back whole");
@@ -132,6 +132,42 @@ static void repair_by_marks(void)
     expect(read_sectors() == 10, "the sectors once more");
     expect(repair(none, report) == CHAMANZIL_DONE && memcmp(read_main, main_data, sizeof main_data) == 0, "the block without marks");
     expect(report[1] == 0 && report[2] == 1 && report[3] == 10, "the row is past help, and ten columns mend it");
+}
+
+/* A reading of the whole stream in which the first 91 words of twenty rows from row `from` on are lost: how many are unknown. */
+static uint32_t read_scratched(size_t from)
+{
+    size_t row;
+    memcpy(stream, whole, sizeof stream);
+    for (row = from; row < from + 20; row++) {
+        memset(stream + 372 * row + 4, 0, 182);
+    }
+    return read_sectors();
+}
+
+/* Two drives lose twenty rows each, others each: the repairer refuses each reading, and reads them pooled. */
+static void pool_readings(void)
+{
+    static uint8_t second[CHAMANZIL_BLOCK];
+    static uint8_t second_erasures[CHAMANZIL_BLOCK];
+    uint32_t report[CHAMANZIL_REPAIR_REPORT] = {0, 0, 0, 0, 0, 0};
+    uint32_t answer;
+    expect(read_scratched(120) == 20 * 91, "the second drive's unknown words");
+    memcpy(second, read_block, sizeof second);
+    memcpy(second_erasures, erasures, sizeof second_erasures);
+    expect(repair(erasures, report) != CHAMANZIL_DONE, "the second drive's reading alone");
+    expect(read_scratched(20) == 20 * 91 && repair(erasures, report) != CHAMANZIL_DONE, "the first drive's reading alone");
+
+    expect(read_scratched(20) == 20 * 91, "the first drive's unknown words");
+    erasures[7] = 2;
+    answer = chamanzil_pool(read_block, sizeof read_block, erasures, sizeof erasures, second, sizeof second, second_erasures, sizeof second_erasures);
+    expect(answer == CHAMANZIL_ERASURE && erasures[7] == 2 && marks_from(8) == 20 * 91, "a mark of 2, pooled");
+    erasures[7] = 0;
+    answer = chamanzil_pool(read_block, sizeof read_block, erasures, sizeof erasures, second, sizeof second, second_erasures, sizeof second_erasures - 1);
+    expect(answer == CHAMANZIL_LENGTH && marks_from(0) == 20 * 91, "another length, pooled");
+    answer = chamanzil_pool(read_block, sizeof read_block, erasures, sizeof erasures, second, sizeof second, second_erasures, sizeof second_erasures);
+    expect(answer == CHAMANZIL_DONE && marks_from(0) == 0 && memcmp(read_block, block, sizeof block) == 0, "two readings, pooled");
+    expect(repair(erasures, report) == CHAMANZIL_DONE && report[1] == 0 && memcmp(read_main, main_data, sizeof main_data) == 0, "the pooled reading");
 }
 
 /* Ten wrong bytes in a row of zeros, which are a code row. */
@@ -276,9 +312,10 @@ int main(void)
     expect(read_whole(stream, sizeof stream, report) == CHAMANZIL_DONE, "read_block");
     expect(memcmp(read_main, main_data, sizeof main_data) == 0, "the main data read");
     expect(report[0] == 0x030000, "the first number");
-    expect(marks() == report[5], "the marks of the unknown words");
+    expect(marks_from(0) == report[5], "the marks of the unknown words");
 
     repair_by_marks();
+    pool_readings();
     correct_by_marks();
     correct_light();
     be_refused();

@@ -204,9 +204,24 @@ fn table(b: &mut Bench, random: &mut Random) {
     b.erase_in_rows(random, 10);
     let [ours, theirs] = b.repairs();
     line("repair, 10 unknown in each row, with marks", ours, Some(("decoding", theirs)));
+    line("two readings pooled", pooling(b, random), None);
     let stream = b.stream.clone();
     line("whole chain, clean stream", seconds(b, |b| b.read(&stream)), None);
     assert!(b.out == b.main);
+}
+
+/// Two readings pooled, with ten unknown words in each row, other ones each: the best of both columns of `beside`.
+fn pooling(b: &mut Bench, random: &mut Random) -> f64 {
+    b.erase_in_rows(random, 10);
+    let (second, marks) = (b.given.clone(), b.erasures_given.clone());
+    b.erase_in_rows(random, 10);
+    let anew = |b: &mut Bench| {
+        b.work.copy_from_slice(&b.given);
+        b.erasures_read.copy_from_slice(&b.erasures_given);
+    };
+    let pool = |b: &mut Bench| assert_eq!(library::pool(&mut b.work, &mut b.erasures_read, &second, &marks), 0);
+    let [one, two] = beside(b, anew, pool, pool);
+    one.min(two)
 }
 
 /// How the times grow: sectors of one block, and blocks that no cache holds together.

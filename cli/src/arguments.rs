@@ -20,6 +20,7 @@ pub struct Arguments {
 pub enum Command {
     Format(Format),
     Recover(Recover),
+    Pool(Pool),
     Sheet(Sheet),
     Map(Map),
     Check(Check),
@@ -50,28 +51,53 @@ pub struct Format {
 ///
 /// Words that are in no table are marked, and the rows are repaired by their marks. A block that is refused with 4, 5 or 6 is read once more without marks, since an
 /// unknown word is read as 0 and can be right; where that passes it is handed out, and a line says so. A block that is refused both ways ends it, with the number of
-/// the reading with marks, and nothing is handed out. The summary's last line has the sums of the bench sheet's counts over all blocks, and at its end `unmarked N`
-/// where N blocks are read without marks.
+/// the reading with marks, and nothing is handed out. The sheet has the line of the reading that is handed out, be it with marks or without. The summary's last line
+/// has the sums of the bench sheet's counts over all blocks, and at its end `unmarked N` where N blocks are read without marks.
 #[derive(clap::Args)]
 #[command(after_help = "Example:\n  chamanzil recover disc.stream -o disc.img --length 65536")]
 pub struct Recover {
     /// The stream of a run
     pub stream: PathBuf,
+    #[command(flatten)]
+    pub handout: Handout,
+    /// Make no second try without marks
+    #[arg(long)]
+    pub strict: bool,
+}
+
+/// Two streams of one run, from two drives, back to the image, with repair
+///
+/// Words that are in no table are marked, and the two readings of each block are pooled before the repair: a byte stands that is unmarked in both and the same, or
+/// unmarked in one only; any other place is marked. A row comes back whole in which every place is right and unmarked in at least one stream, and in which the two
+/// together have at most ten unmarked wrong bytes; a block is handed out while at most eight of its 208 rows are not like that, also where each stream alone is
+/// refused. A clean stream pooled with a very bad one can be refused where the clean one alone is read: use `recover` on each first. There is no second try without
+/// marks. In the sheet and the summary `unknown` and `sync` are of both streams together, and `marked N` at the end counts the marks after pooling.
+#[derive(clap::Args)]
+#[command(after_help = "Example:\n  chamanzil pool first.stream second.stream -o disc.img")]
+pub struct Pool {
+    /// The stream of a run
+    pub first: PathBuf,
+    /// The stream of the same run from another drive
+    pub second: PathBuf,
+    #[command(flatten)]
+    pub handout: Handout,
+}
+
+// What `recover` and `pool` hand out. (A doc comment here would stand in their help for their own.)
+#[derive(clap::Args)]
+pub struct Handout {
     /// Where the image goes
     #[arg(short, long, value_name = "IMAGE")]
     pub output: PathBuf,
     /// Bytes of the image, without the zero sectors that filled the last block up
     #[arg(long, value_name = "N")]
     pub length: Option<u64>,
-    /// Where the bench sheet's line of each block goes: of the reading that is handed out, be it with marks or without
+    /// Where the bench sheet's line of each block goes
     #[arg(long, value_name = "FILE")]
     pub sheet: Option<PathBuf>,
     /// Put 32,768 zero bytes where a block is refused, and go on; the exit status is 1 all the same
     #[arg(long)]
     pub keep_going: bool,
-    /// Make no second try without marks
-    #[arg(long)]
-    pub strict: bool,
 }
 
 /// The bench sheet's line of each block

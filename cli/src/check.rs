@@ -4,7 +4,7 @@ use chamanzil::{
 };
 
 use crate::arguments::Check;
-use crate::failure::{Failure, Refused};
+use crate::failure::{Failure, Refused, THE_STREAM};
 use crate::input::Input;
 use crate::pieces::{in_order, of_stream, Piece};
 use crate::progress::Progress;
@@ -27,7 +27,8 @@ fn lost_syncs(stream: &[u8]) -> impl Iterator<Item = (usize, u32)> + '_ {
 fn check(piece: &Piece) -> Checked {
     let Piece { block, bytes } = piece;
     if bytes.len() != STREAM {
-        let refused = Refused::in_stream(chamanzil::Refusal::Length, *block, bytes.len());
+        let (refusal, length) = (chamanzil::Refusal::Length, bytes.len());
+        let refused = Refused::in_stream(refusal, *block, THE_STREAM, length);
         return Checked {
             faults: vec![refused.to_string()],
             after: Vec::new(),

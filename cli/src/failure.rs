@@ -24,6 +24,9 @@ pub struct Refused {
     pub words: Option<String>,
 }
 
+/// How a stream is called that is the only one.
+pub const THE_STREAM: &str = "the stream";
+
 /// A number of bytes, in words.
 pub fn bytes(count: usize) -> String {
     match count {
@@ -33,11 +36,11 @@ pub fn bytes(count: usize) -> String {
 }
 
 impl Refused {
-    /// A block's; `length` are the bytes of the stream that there were for it.
-    pub fn in_stream(refusal: Refusal, block: u64, length: usize) -> Self {
+    /// A block's; `length` are the bytes that there were for it in the stream, which is called so.
+    pub fn in_stream(refusal: Refusal, block: u64, stream: &str, length: usize) -> Self {
         let words = (refusal == Refusal::Length).then(|| {
             let (has, due) = (bytes(length), chamanzil::STREAM);
-            format!("the stream has {has} for this block, where {due} are due")
+            format!("{stream} has {has} for this block, where {due} are due")
         });
         Refused {
             refusal,

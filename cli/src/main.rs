@@ -3,15 +3,17 @@ mod arguments;
 mod check;
 mod failure;
 mod format;
+mod handout;
 mod input;
 mod map;
 mod output;
 mod pieces;
+mod pool;
 mod progress;
+mod reading;
 mod recover;
 mod sheet;
 mod signals;
-mod unmarked;
 
 use std::io::Write;
 use std::process::ExitCode;
@@ -58,6 +60,7 @@ fn run(command: &Command) -> Result<Ending, Failure> {
     match command {
         Command::Format(chosen) => format::run(chosen),
         Command::Recover(chosen) => recover::run(chosen),
+        Command::Pool(chosen) => pool::run(chosen),
         Command::Sheet(chosen) => sheet::run(chosen),
         Command::Map(chosen) => map::run(chosen),
         Command::Check(chosen) => check::run(chosen),

@@ -47,6 +47,35 @@ pub fn of_stream(stream: Input) -> impl Iterator<Item = Result<Piece, Failure>> 
     })
 }
 
+/// A block's bytes in two streams.
+pub struct Pair {
+    pub block: u64,
+    pub first: Vec<u8>,
+    pub second: Vec<u8>,
+}
+
+/// The next block of two streams, unless both have ended. A stream that has ended before the other has no bytes for it.
+fn next_pair(
+    block: u64,
+    first: &mut impl Iterator<Item = Result<Piece, Failure>>,
+    second: &mut impl Iterator<Item = Result<Piece, Failure>>,
+) -> Result<Option<Pair>, Failure> {
+    let (first, second) = (first.next().transpose()?, second.next().transpose()?);
+    let is_there = first.is_some() || second.is_some();
+    let bytes = |piece: Option<Piece>| piece.map_or_else(Vec::new, |piece| piece.bytes);
+    Ok(is_there.then(|| Pair {
+        block,
+        first: bytes(first),
+        second: bytes(second),
+    }))
+}
+
+/// The blocks of two streams side by side, as far as the longer one goes.
+pub fn of_streams(first: Input, second: Input) -> impl Iterator<Item = Result<Pair, Failure>> {
+    let (mut first, mut second) = (of_stream(first), of_stream(second));
+    (0..).map_while(move |block| next_pair(block, &mut first, &mut second).transpose())
+}
+
 type Batch<T> = Result<Vec<T>, Failure>;
 
 fn batches<T>(mut pieces: impl Iterator<Item = Result<T, Failure>>, to: &SyncSender<Batch<T>>) {

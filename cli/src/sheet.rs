@@ -2,15 +2,16 @@
 use chamanzil::{read_block, BlockRead, Refusal, BLOCK_STREAM};
 
 use crate::arguments::Sheet;
-use crate::failure::{Failure, Refused};
+use crate::failure::{Failure, Refused, THE_STREAM};
 use crate::input::Input;
 use crate::pieces::{in_order, of_stream, Piece};
 use crate::progress::Progress;
 use crate::Ending;
 
-/// A block as the library answers, and the bytes that there were for it.
+/// A block as the library answers, and the bytes that there were for it in the stream, which is called so.
 pub struct Answer {
     pub block: u64,
+    pub stream: &'static str,
     pub bytes: usize,
     pub read: Result<BlockRead, Refusal>,
 }
@@ -19,6 +20,7 @@ pub fn read(piece: &Piece) -> Answer {
     let stream = piece.bytes[..].try_into().map_err(|_| Refusal::Length);
     Answer {
         block: piece.block,
+        stream: THE_STREAM,
         bytes: piece.bytes.len(),
         read: stream.and_then(read_block),
     }
@@ -39,7 +41,8 @@ impl Answer {
     /// Why it is refused, if it is.
     pub fn refused(&self) -> Option<Refused> {
         let refusal = self.read.as_ref().err()?;
-        Some(Refused::in_stream(*refusal, self.block, self.bytes))
+        let (stream, bytes) = (self.stream, self.bytes);
+        Some(Refused::in_stream(*refusal, self.block, stream, bytes))
     }
 }
 

@@ -86,6 +86,11 @@ fn what_has_to_be_there() {
         "recover",
         "recover stream",
         "recover -o image2",
+        "pool",
+        "pool stream",
+        "pool stream stream",
+        "pool stream -o image2",
+        "pool stream stream stream -o image2",
         "sheet",
         "sheet stream stream",
         "map",
@@ -111,6 +116,7 @@ fn what_is_not_known() {
         "completions klingon",
         "recover stream -o image2 --skip",
         "recover stream -o image2 --strict=1",
+        "pool stream stream -o image2 --strict",
         "sheet stream --strict",
         "map stream -o map.png --strict",
         "check stream --strict",
@@ -161,9 +167,17 @@ fn image_and_sheet_are_two_files() {
         "recover stream --sheet out --output out",
         "recover stream -o - --sheet -",
         "recover stream --keep-going -o stream --sheet stream",
+        "pool stream stream -o out --sheet out",
     ] {
         wrong_line(line);
     }
+}
+
+/// Standard input can't be two streams.
+#[test]
+fn one_of_two_streams_is_standard_input() {
+    wrong_line("pool - - -o image2");
+    wrong_line("pool - - -o - --sheet lines --keep-going");
 }
 
 /// One file by two names must not become a mixture of both, whatever the command answers.

@@ -6,7 +6,15 @@ use common::streams::{image, run_of};
 use common::{ended, Ended, Folder, CHAMANZIL};
 use std::path::Path;
 
-const COMMANDS: [&str; 6] = ["format", "recover", "sheet", "map", "check", "completions"];
+const COMMANDS: [&str; 7] = [
+    "format",
+    "recover",
+    "pool",
+    "sheet",
+    "map",
+    "check",
+    "completions",
+];
 
 fn help(command: &str) -> String {
     let ended = Folder::new()
@@ -40,17 +48,19 @@ fn typed(folder: &Folder, line: &str) -> Ended {
 }
 
 /// The files that a line names, but for the command's own words and what options take that is no file.
-fn input_of(line: &str) -> String {
+fn inputs_of(line: &str) -> Vec<&str> {
     let mut words = line.split_whitespace().skip(2);
+    let mut inputs = Vec::new();
     while let Some(word) = words.next() {
         match word {
             "--keep-going" => {}
             _ if word.starts_with("--") && word.contains('=') => {}
             _ if word.starts_with('-') && word.len() > 1 => drop(words.next()),
-            _ => return word.to_string(),
+            _ => inputs.push(word),
         }
     }
-    panic!("no input in: {line}")
+    assert!(!inputs.is_empty(), "no input in: {line}");
+    inputs
 }
 
 fn output_of(line: &str) -> Option<&str> {
@@ -65,11 +75,13 @@ fn output_of(line: &str) -> Option<&str> {
 fn each_example_runs() {
     let image = image(140, 5 * MAIN + 2_048);
     let stream = run_of(&image, 0x03_0000, 0);
-    for command in ["format", "recover", "sheet", "map", "check"] {
+    for command in ["format", "recover", "pool", "sheet", "map", "check"] {
         let line = example(command);
         let folder = Folder::new();
         let input = if command == "format" { &image } else { &stream };
-        folder.write(&input_of(&line), input);
+        for name in inputs_of(&line) {
+            folder.write(name, input);
+        }
         let ended = typed(&folder, &line).done();
         match output_of(&line) {
             Some(output) => assert!(!folder.read(output).is_empty(), "{line}"),
@@ -114,6 +126,7 @@ fn the_help_names_each_option() {
                 "--strict",
             ],
         ),
+        ("pool", &["--output", "--length", "--sheet", "--keep-going"]),
         ("map", &["--output", "--block", "--as"]),
     ] {
         let help = help(command);
@@ -129,6 +142,9 @@ fn the_help_tells_of_marks() {
     for (command, words) in [
         ("recover", "read once more without marks"),
         ("recover", "be it with marks or without"),
+        ("pool", "at most ten unmarked wrong bytes"),
+        ("pool", "use `recover` on each first"),
+        ("pool", "no second try without marks"),
         ("sheet", "not a second time without"),
         ("map", "repaired by their marks"),
     ] {

@@ -26,17 +26,19 @@ const CUT: &str =
     "refused 1: the stream has 77379 bytes for this block, where 77380 are due (block 0)";
 
 /// Each command with an output, up to that output's name.
-const TO: [&str; 4] = [
+const TO: [&str; 5] = [
     "format image --first 030000 -o ",
     "recover stream -o ",
     "recover stream -o image2 --sheet ",
+    "pool stream stream -o ",
     "map stream --as png -o ",
 ];
 
 /// Each command up to its input's name, with an output where it has one.
-const FROM: [&str; 5] = [
+const FROM: [&str; 6] = [
     "format --first 030000 -o out ",
     "recover -o out --sheet lines ",
+    "pool -o out --sheet lines stream ",
     "map -o out.png ",
     "sheet ",
     "check ",

@@ -16,6 +16,7 @@
 //!
 //! What the sector reader knows goes on to the repair: it marks each byte whose Code Word is in no table (`erasures`: 1 for such a byte, 0 for any other). With f
 //! marked bytes a row is repaired while 2e + f is at most 10, where e counts its wrong bytes without a mark: ten marked bytes come back, and without marks five.
+//! Two readings of one block, from two drives, go into one by [`pool`] before the repair.
 //!
 //! Blocks that follow on are a run, which a [`Writer`] writes: 77,376 bytes a block, and the closing code after the last. Block k is read from the 77,380 bytes at
 //! 77,376 k: its sectors and the four bytes after them. Sector by sector, [`Writer::trial`] tells the DSV after a sector before it is written, and hands out the
@@ -172,6 +173,51 @@ pub fn read_sector(stream: &[u8; SECTOR_READ]) -> SectorRead {
         unknown,
         sync,
     }
+}
+
+/// Two readings of one block, from two drives, pooled before the repair: the result replaces the first, and the second stays. Where both are unmarked and equal that
+/// byte stands, and where one is marked the other's; elsewhere the byte is 0 and marked. Which of the two is the first makes no difference to the result.
+///
+/// A row in which every place is right and unmarked in at least one reading, and in which the two together have at most ten unmarked wrong bytes, comes back whole
+/// from the row repair. While at most eight of the 208 rows are not like that, the repairer hands out the main data:
+///
+/// ```
+/// use chamanzil::{encode_block, pool, repair_block, Refusal, BLOCK, MAIN, ROW};
+/// let made = encode_block(&[1; MAIN], None, 16, 0)?;
+/// let (mut bytes, mut erasures) = (made.clone(), [0; BLOCK]);
+/// let (mut second_bytes, mut second_erasures) = (made.clone(), [0; BLOCK]);
+/// for row in 0..9 {
+///     // six wrong bytes in the first reading; in the second, at other places, eleven unknown words
+///     bytes[ROW * row..][..6].iter_mut().for_each(|byte| *byte ^= 255);
+///     second_bytes[ROW * row + 6..][..11].fill(0);
+///     second_erasures[ROW * row + 6..][..11].fill(1);
+/// }
+/// assert!(repair_block(&mut bytes.clone(), &erasures).is_err());
+/// assert!(repair_block(&mut second_bytes.clone(), &second_erasures).is_err());
+///
+/// pool(&mut bytes, &mut erasures, &second_bytes, &second_erasures)?;
+/// let repaired = repair_block(&mut bytes, &erasures)?;
+/// assert_eq!((*repaired.main, repaired.rows.changed), ([1; MAIN], 9));
+/// assert_eq!(bytes, made);
+///
+/// second_erasures[BLOCK - 1] = 2;
+/// let refused = pool(&mut bytes, &mut erasures, &second_bytes, &second_erasures);
+/// assert_eq!((refused, bytes), (Err(Refusal::Erasure), made));
+/// # Ok::<(), Refusal>(())
+/// ```
+///
+/// A clean reading pooled with a very bad one can be refused where the clean one alone is read: a place in which they differ is marked, whichever is right. So each
+/// is repaired alone first, on a copy, and both together where that fails.
+///
+/// # Errors
+/// 11, with everything as it was.
+pub fn pool(
+    bytes: &mut [u8; BLOCK],
+    erasures: &mut [u8; BLOCK],
+    second_bytes: &[u8; BLOCK],
+    second_erasures: &[u8; BLOCK],
+) -> Result<(), Refusal> {
+    slices::pool(bytes, erasures, second_bytes, second_erasures)
 }
 
 /// How many rows or columns were no code words.

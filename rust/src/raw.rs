@@ -98,6 +98,16 @@ extern "C" {
         report: *mut u32,
         report_len: usize,
     ) -> u32;
+    pub fn chamanzil_pool(
+        bytes: *mut u8,
+        bytes_len: usize,
+        erasures: *mut u8,
+        erasures_len: usize,
+        second_bytes: *const u8,
+        second_bytes_len: usize,
+        second_erasures: *const u8,
+        second_erasures_len: usize,
+    ) -> u32;
     pub fn chamanzil_repair_block(
         block: *mut u8,
         block_len: usize,

@@ -192,6 +192,53 @@ pub fn read_sector(
     answer(number, 0)
 }
 
+/// Two readings of one block pooled before its repair, 37,856 bytes with as many marks each: the result replaces the first, and the second stays. Where both are
+/// unmarked and equal that byte stands, and where one is marked the other's; elsewhere the byte is 0 and marked.
+///
+/// ```
+/// use chamanzil::{slices, Refusal, BLOCK};
+/// let (mut bytes, mut erasures) = (vec![7; BLOCK], vec![0; BLOCK]);
+/// let (mut second_bytes, mut second_erasures) = (vec![7; BLOCK], vec![0; BLOCK]);
+/// bytes[1] = 9; // another byte than the second has
+/// erasures[2] = 1;
+/// second_erasures[3] = 2;
+/// let was = (bytes.clone(), erasures.clone());
+/// let short = slices::pool(&mut bytes, &mut erasures, &second_bytes[1..], &second_erasures);
+/// assert_eq!(short, Err(Refusal::Length));
+/// let refused = slices::pool(&mut bytes, &mut erasures, &second_bytes, &second_erasures);
+/// assert_eq!((refused, (&bytes, &erasures)), (Err(Refusal::Erasure), (&was.0, &was.1)));
+///
+/// second_erasures[3] = 1;
+/// second_bytes[3] = 0;
+/// slices::pool(&mut bytes, &mut erasures, &second_bytes, &second_erasures)?;
+/// assert_eq!((&bytes[..4], &erasures[..4]), (&[7, 0, 7, 7][..], &[0, 1, 0, 0][..]));
+/// # Ok::<(), Refusal>(())
+/// ```
+///
+/// # Errors
+/// 1 or 11, with everything as it was.
+pub fn pool(
+    bytes: &mut [u8],
+    erasures: &mut [u8],
+    second_bytes: &[u8],
+    second_erasures: &[u8],
+) -> Result<(), Refusal> {
+    let (b, e) = (bytes.as_mut_ptr(), erasures.as_mut_ptr());
+    let number = unsafe {
+        raw::chamanzil_pool(
+            b,
+            bytes.len(),
+            e,
+            erasures.len(),
+            second_bytes.as_ptr(),
+            second_bytes.len(),
+            second_erasures.as_ptr(),
+            second_erasures.len(),
+        )
+    };
+    answer(number, 0)
+}
+
 /// The block repairer: a block of 37,856 bytes with as many marks, repaired in place, to 32,768 main data bytes. `report` has six numbers: the first number, rows
 /// changed and past help, columns changed and past help, and the frame refused.
 ///

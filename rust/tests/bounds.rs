@@ -260,6 +260,54 @@ fn repair_block() {
     });
 }
 
+/// A place of two readings pooled, by the paper: each a byte and its mark.
+fn pooled(first: (u8, u8), second: (u8, u8)) -> (u8, u8) {
+    match (first, second) {
+        ((a, 0), (b, 0)) if a == b => (a, 0),
+        ((byte, 0), (_, 1)) | ((_, 1), (byte, 0)) => (byte, 0),
+        _ => (0, 1),
+    }
+}
+
+fn with_marks(bytes: &[u8], erasures: &[u8]) -> Vec<(u8, u8)> {
+    bytes
+        .iter()
+        .copied()
+        .zip(erasures.iter().copied())
+        .collect()
+}
+
+/// In the sweep the marks are random bytes here too. In the rounds the readings are equal at first, and then differ at some places.
+#[test]
+fn pool() {
+    sweep(&[BLOCK; 4], |b| {
+        let [bytes, erasures, second, marks] = b else {
+            unreachable!()
+        };
+        slices::pool(bytes.lend(), erasures.lend(), second.lend(), marks.lend())
+    });
+    rounds(9, &[BLOCK; 4], |b, _, numbers| {
+        let [bytes, erasures, second, marks] = b else {
+            unreachable!()
+        };
+        let (bytes, erasures, second, marks) =
+            (bytes.lend(), erasures.lend(), second.lend(), marks.lend());
+        let refused = Err(Refusal::Erasure);
+        assert_eq!(slices::pool(bytes, erasures, second, marks), refused);
+        to_marks(erasures, [1, 2, 20][numbers.below(3)]);
+        assert_eq!(slices::pool(bytes, erasures, second, marks), refused);
+        marks.copy_from_slice(&numbers.bytes(BLOCK));
+        to_marks(marks, [1, 2, 20][numbers.below(3)]);
+        second.iter_mut().step_by(3).for_each(|byte| *byte ^= 1);
+
+        let (first, other) = (with_marks(bytes, erasures), with_marks(second, marks));
+        let due = first.iter().zip(&other).map(|(a, b)| pooled(*a, *b));
+        slices::pool(bytes, erasures, second, marks).unwrap();
+        assert!(due.eq(with_marks(bytes, erasures)));
+        assert!(with_marks(second, marks) == other, "the second stays");
+    });
+}
+
 #[test]
 fn read_block() {
     let mut eight = [0; 8];

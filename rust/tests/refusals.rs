@@ -159,6 +159,29 @@ fn length_1_of_the_repairs() {
     assert_eq!((main, report), (vec![OLD; MAIN], [7; 8]));
 }
 
+/// Bytes and marks of two readings, each of another length in turn. The marks are none: 1 goes before 11.
+#[test]
+fn length_1_of_pooling() {
+    let old = || vec![OLD; BLOCK + 1];
+    let mut buffers = [old(), old(), old(), old()];
+    for which in 0..4 {
+        for length in [0, BLOCK - 1, BLOCK + 1] {
+            let mut lengths = [BLOCK; 4];
+            lengths[which] = length;
+            let [b, e, second, marks] = lengths;
+            let [bytes, erasures, second_bytes, second_erasures] = &mut buffers;
+            let answer = slices::pool(
+                &mut bytes[..b],
+                &mut erasures[..e],
+                &second_bytes[..second],
+                &second_erasures[..marks],
+            );
+            assert_eq!(answer, Err(Refusal::Length), "buffer {which} of {length}");
+        }
+    }
+    assert!(buffers == [old(), old(), old(), old()]);
+}
+
 #[test]
 fn first_number_2_and_information_3() {
     let main = main_data(1);
@@ -344,6 +367,36 @@ fn erasure_11_of_a_row() {
                 assert_eq!(answer, Err(Refusal::Length));
             }
             assert_eq!(row, was);
+        }
+    }
+}
+
+/// Two readings, 1 and 2 in all bytes, of which one has a mark that is none. They stay, and 1 goes before 11.
+fn pooling_refused(mut erasures: Box<[u8; BLOCK]>, second_erasures: &[u8; BLOCK]) {
+    let (mut bytes, second, marks) = (buffer(1), buffer(2), erasures.clone());
+    let refused = Err(Refusal::Erasure);
+    let answer = chamanzil::pool(&mut bytes, &mut erasures, &second, second_erasures);
+    assert_eq!(answer, refused);
+    let (b, e) = (&mut bytes[..], &mut erasures[..]);
+    assert_eq!(slices::pool(b, e, &second[..], second_erasures), refused);
+    let short = slices::pool(&mut b[1..], e, &second[..], second_erasures);
+    assert_eq!(short, Err(Refusal::Length));
+    let short = slices::pool(b, e, &second[1..], second_erasures);
+    assert_eq!(short, Err(Refusal::Length));
+    assert!(bytes == buffer(1) && erasures == marks, "after 11");
+}
+
+#[test]
+fn erasure_11_of_pooling() {
+    for others in [0, 1] {
+        for place in [0, 20_000, BLOCK - 1] {
+            for mark in [2, 255] {
+                let mut bad = buffer(others);
+                bad[place] = mark;
+                pooling_refused(bad.clone(), &buffer(others));
+                pooling_refused(buffer(others), &bad);
+                pooling_refused(bad.clone(), &bad);
+            }
         }
     }
 }

@@ -1,30 +1,15 @@
-//! What is formatted is read back, as it is and scratched within the limits that demand 3 and the theorem of marks state.
+//! What is formatted is read back, as it is and scratched within the limits that demand 3 and the theorems of marks and of pooling state.
 mod common;
 
 use chamanzil::{
-    encode_block, format_block, read_block, read_sector, repair_block, slices, zero_runs_hold,
-    Refusal, Tally,
+    encode_block, format_block, pool, read_block, repair_block, slices, zero_runs_hold, Refusal,
+    Tally,
 };
-use chamanzil::{BLOCK, MAIN, ROW, ROW_DATA, SECTOR, SECTOR_READ, SECTOR_STREAM, STREAM};
-use common::{buffer, main_data, stream_of, Numbers};
+use chamanzil::{BLOCK, MAIN, ROW, ROW_DATA};
+use common::{buffer, by_sectors, main_data, stream_of, Block, Numbers};
 
 /// Bytes of a row in a stream: two Sync Frames.
 const ROW_STREAM: usize = 372;
-
-type Block = Box<[u8; BLOCK]>;
-
-/// The sector reader's bytes and marks, sector by sector, and how many words are unknown.
-fn by_sectors(stream: &[u8; STREAM]) -> (Block, Block, u32) {
-    let (mut block, mut erasures, mut unknown) = (buffer(0), buffer(0), 0);
-    for k in 0..16 {
-        let part = &stream[k * SECTOR_STREAM..k * SECTOR_STREAM + SECTOR_READ];
-        let read = read_sector(part.try_into().unwrap());
-        block[k * SECTOR..(k + 1) * SECTOR].copy_from_slice(&read.bytes[..]);
-        erasures[k * SECTOR..(k + 1) * SECTOR].copy_from_slice(&read.erasures[..]);
-        unknown += read.unknown;
-    }
-    (block, erasures, unknown)
-}
 
 #[test]
 fn as_it_is() {
@@ -165,6 +150,89 @@ fn refused_with_marks_and_read_without() {
     let repaired = repair_block(&mut read, &buffer(0)).unwrap();
     assert_eq!((repaired.rows.changed, repaired.rows.past_help), (9, 0));
     assert!(repaired.main == main && read == block);
+}
+
+/// A row of two readings within the theorem of pooling: ten unmarked bytes are wrong in one of the two, sixty marked ones too, and no place is so in both.
+fn spoil_either(numbers: &mut Numbers, row: usize, bytes: &mut [Block; 2], marks: &mut [Block; 2]) {
+    let mut places: Vec<usize> = (ROW * row..ROW * (row + 1)).collect();
+    for k in 0..70 {
+        let other = k + numbers.below(ROW - k);
+        places.swap(k, other);
+        let which = numbers.below(2);
+        bytes[which][places[k]] ^= 1 + numbers.byte() % 255;
+        marks[which][places[k]] = u8::from(k >= 10);
+    }
+}
+
+/// Two readings of which all rows but these eight are within the theorem of pooling.
+fn two_readings(numbers: &mut Numbers, block: &Block, heavy: &[usize]) -> ([Block; 2], [Block; 2]) {
+    let mut bytes = [block.clone(), block.clone()];
+    let mut marks = [buffer(0), buffer(0)];
+    for row in 0..208 {
+        spoil_either(numbers, row, &mut bytes, &mut marks);
+        if heavy.contains(&row) {
+            bytes[0][ROW * row..][..ROW].copy_from_slice(&numbers.bytes(ROW));
+            marks[0][ROW * row..][..ROW].fill(0);
+        }
+    }
+    (bytes, marks)
+}
+
+/// Neither of two readings is read alone, and pooled they are; it makes no difference which is the first.
+#[test]
+fn two_readings_pooled() {
+    let mut numbers = Numbers::new(24);
+    for round in 0..6 {
+        let main = main_data(round);
+        let block = encode_block(&main, None, 16 * 7, 0).unwrap();
+        let heavy: Vec<usize> = (0..8).map(|_| numbers.below(208)).collect();
+        let ([first, second], [marks, second_marks]) = two_readings(&mut numbers, &block, &heavy);
+        assert!(repair_block(&mut first.clone(), &marks).is_err());
+        assert!(repair_block(&mut second.clone(), &second_marks).is_err());
+
+        let (mut read, mut erasures) = (first.clone(), marks.clone());
+        pool(&mut read, &mut erasures, &second, &second_marks).unwrap();
+        let (mut other, mut other_erasures) = (second, second_marks);
+        pool(&mut other, &mut other_erasures, &first, &marks).unwrap();
+        assert!(read == other && erasures == other_erasures);
+
+        let repaired = repair_block(&mut read, &erasures).unwrap();
+        assert!(repaired.main == main && repaired.rows.past_help <= 8);
+        let is_heavy = |i: usize| heavy.contains(&(i / ROW));
+        assert!((0..BLOCK).all(|i| read[i] == block[i] || is_heavy(i) && i % ROW >= ROW_DATA));
+        let marked = (0..BLOCK).filter(|i| !is_heavy(*i) && erasures[*i] == 1);
+        let light = (0..208).filter(|row| !heavy.contains(row)).count();
+        assert_eq!(marked.count(), 10 * light);
+    }
+}
+
+/// A reading pooled with itself is that reading, with byte 0 where it is marked.
+#[test]
+fn a_reading_pooled_with_itself() {
+    let mut numbers = Numbers::new(25);
+    let bytes: Block = numbers.bytes(BLOCK).into_boxed_slice().try_into().unwrap();
+    let mut marks = buffer::<BLOCK>(0);
+    marks.fill_with(|| u8::from(numbers.below(12) == 0));
+    let (mut pooled, mut erasures) = (bytes.clone(), marks.clone());
+    pool(&mut pooled, &mut erasures, &bytes, &marks).unwrap();
+    assert!(erasures == marks);
+    assert!((0..BLOCK).all(|i| pooled[i] == bytes[i] * (1 - marks[i])));
+}
+
+/// Past the theorem pooling can do harm: nine rows of zeros beside a clean reading have more than ten marks.
+#[test]
+fn a_clean_reading_pooled_with_a_bad_one() {
+    let main = main_data(26);
+    let block = encode_block(&main, None, 0, 0).unwrap();
+    let (mut read, mut erasures) = (block.clone(), buffer::<BLOCK>(0));
+    let mut bad = block.clone();
+    bad[ROW * 14..ROW * 23].fill(0);
+    assert!(repair_block(&mut block.clone(), &erasures).unwrap().main == main);
+    pool(&mut read, &mut erasures, &bad, &buffer(0)).unwrap();
+    assert_eq!(
+        repair_block(&mut read, &erasures),
+        Err(Refusal::Edc { frame: 1 })
+    );
 }
 
 /// A refusal of the whole-block reader leaves the sectors' marks too.

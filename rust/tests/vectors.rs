@@ -1,10 +1,11 @@
 //! Blocks and streams of a second formatter, written from the papers alone: crates/trials/data and tests/data/vectors.
 mod common;
 
-use chamanzil::{correct_light_row, correct_row, encode_block, format_block, read_block, slices};
-use chamanzil::{LightOutcome, Outcome, Record, Writer};
+use chamanzil::{correct_light_row, correct_row, encode_block, format_block};
+use chamanzil::{pool, read_block, repair_block, slices};
+use chamanzil::{LightOutcome, Outcome, Record, Refusal, Repaired, Writer};
 use chamanzil::{BLOCK, BLOCK_STREAM, CLOSING, MAIN, ROW, SECTOR, SECTOR_STREAM, STREAM};
-use common::{buffer, stream_of};
+use common::{buffer, by_sectors, stream_of, Block};
 use std::fs;
 use std::path::{Path, PathBuf};
 
@@ -70,6 +71,61 @@ fn sheets() {
         lines += 1;
     }
     assert_eq!(lines, 12);
+}
+
+/// The bytes and marks of a stream that pool.tsv names from the second formatter's folder.
+fn reading(name: &str) -> (Block, Block) {
+    let file = name.rsplit('/').next().unwrap();
+    let folder = if name.contains("damaged/") {
+        "tests/data/vectors/damaged"
+    } else {
+        "crates/trials/data"
+    };
+    let (block, erasures, _) = by_sectors(&bytes(&format!("{folder}/{file}")));
+    (block, erasures)
+}
+
+/// FNV-1a, in hexadecimal digits.
+fn hash(bytes: &[u8]) -> String {
+    let start = 0xCBF2_9CE4_8422_2325;
+    let hash = bytes.iter().fold(start, |hash: u64, byte| {
+        (hash ^ u64::from(*byte)).wrapping_mul(0x100_0000_01B3)
+    });
+    format!("{hash:016X}")
+}
+
+/// The repairer's answer, as the bench sheet begins.
+fn answer_of(repaired: Result<Repaired, Refusal>) -> String {
+    let told = repaired.map(|read| {
+        let (rows, columns) = (read.rows, read.columns);
+        format!(
+            "block {:06X} rows {} {} columns {} {}",
+            read.first, rows.changed, rows.past_help, columns.changed, columns.past_help
+        )
+    });
+    let words = told.unwrap_or_else(|refusal| refusal.to_string());
+    words.split(':').next().unwrap().to_string()
+}
+
+/// Two streams read and pooled, in both orders: hashes of bytes and marks, how many marks, and the repairer's answer.
+#[test]
+fn pooled() {
+    let list = fs::read_to_string(path("tests/data/vectors/pool.tsv")).unwrap();
+    for line in list.lines().skip(1) {
+        let words: Vec<&str> = line.splitn(3, '\t').collect();
+        let [first, second, due] = words[..] else {
+            panic!("{line}")
+        };
+        for (one, other) in [(first, second), (second, first)] {
+            let ((mut block, mut erasures), (bytes, marks)) = (reading(one), reading(other));
+            pool(&mut block, &mut erasures, &bytes, &marks).unwrap();
+            let hashes = [hash(&block[..]), hash(&erasures[..])].join("\t");
+            let marked: u32 = erasures.iter().map(|mark| u32::from(*mark)).sum();
+            let answer = answer_of(repair_block(&mut block, &erasures));
+            assert_eq!(format!("{hashes}\t{marked}\t{answer}"), due, "{line}");
+        }
+    }
+    assert_eq!(list.lines().count(), 10);
 }
 
 fn row_of(digits: &str) -> [u8; ROW] {

@@ -195,7 +195,7 @@ pub fn repairs(report: &mut Report, random: &mut Random, count: usize) {
 // ---- rows with marks
 
 /// Both repairs of a row with marks; what the second implementation made of it.
-fn compare_erased(report: &mut Report, code: &Code, row: &[u8], erasures: &[u8]) -> (Fate, Vec<u8>) {
+pub fn compare_erased(report: &mut Report, code: &Code, row: &[u8], erasures: &[u8]) -> (Fate, Vec<u8>) {
     let (mut ours, mut theirs) = (row.to_vec(), row.to_vec());
     let answer = library::correct_row(&mut ours, erasures);
     let fate = code.repair_erased(&mut theirs, erasures);

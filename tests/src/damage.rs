@@ -4,6 +4,7 @@
 use crate::block::BLOCK;
 use crate::random::Random;
 use crate::reading::Reader;
+use crate::tables::{Entry, Tables};
 
 const ROWS: usize = 208;
 
@@ -41,6 +42,22 @@ pub fn replace(stream: &mut [u8], i: usize, word: u16) {
 pub fn blank(stream: &mut [u8], i: usize) {
     let left = half_at(stream, half_of(i)) & 0x8008;
     replace(stream, i, left);
+}
+
+/// Makes the word of byte i one for another byte, whatever follows it, and touches no other byte, as above.
+pub fn mistake(random: &mut Random, t: &Tables, stream: &mut [u8], i: usize, right: u8) {
+    let word = half_at(stream, half_of(i));
+    let others = t.main.iter().enumerate().filter(|(byte, _)| *byte != right as usize).flat_map(|(_, entries)| entries);
+    let fits = |e: &&Entry| (e.next == 1 || e.next == 4) && (e.word ^ word) & 0x8008 == 0;
+    let words: Vec<u16> = others.filter(fits).map(|e| e.word).collect();
+    replace(stream, i, words[random.below(words.len())]);
+}
+
+/// Flips some bits of the word of byte i and touches no other byte, as above.
+pub fn flip_some(random: &mut Random, stream: &mut [u8], i: usize) {
+    let pattern = (1 + random.below(65_535) as u16) & !0x8008;
+    let word = half_at(stream, half_of(i));
+    replace(stream, i, word ^ pattern);
 }
 
 impl<'a> Damaged<'a> {

@@ -15,11 +15,11 @@ use crate::writing::{permitted_stream, LAID, SECTOR};
 const ROWS: usize = 208;
 
 /// A block as it was made, and a permitted stream of it.
-struct Made {
-    main: Vec<u8>,
-    first: u32,
-    block: Vec<u8>,
-    stream: Vec<u8>,
+pub struct Made {
+    pub main: Vec<u8>,
+    pub first: u32,
+    pub block: Vec<u8>,
+    pub stream: Vec<u8>,
 }
 
 impl Made {
@@ -29,7 +29,7 @@ impl Made {
         Made { main, first, block, stream }
     }
 
-    fn random(random: &mut Random, t: &Tables) -> Made {
+    pub fn random(random: &mut Random, t: &Tables) -> Made {
         let main = random.bytes(MAIN);
         let (first, info) = accepted(random);
         Made::new(random, t, main, first, info)
@@ -54,7 +54,7 @@ impl Made {
         stream
     }
 
-    fn is_back(&self, ours: &Left) -> bool {
+    pub fn is_back(&self, ours: &Left) -> bool {
         ours.is_handed_out(&self.main, self.first)
     }
 }
@@ -65,7 +65,7 @@ fn places_in(random: &mut Random, rows: &[usize], count: usize) -> Vec<usize> {
 }
 
 /// The sixteen sectors of a stream by the library: bytes, marks, and the sums of the tallies.
-fn read_sectors(stream: &[u8]) -> (Vec<u8>, Vec<u8>, [u32; 2]) {
+pub fn read_sectors(stream: &[u8]) -> (Vec<u8>, Vec<u8>, [u32; 2]) {
     let (mut bytes, mut erasures, mut sums) = (vec![0xA5; BLOCK], vec![0xA5; BLOCK], [0; 2]);
     for (s, (out, marks)) in bytes.chunks_mut(SECTOR).zip(erasures.chunks_mut(SECTOR)).enumerate() {
         let mut tallies = [9; 2];

@@ -151,6 +151,11 @@ pub fn read_sector(stream: &[u8], out: &mut [u8], erasures: &mut [u8], report: &
     unsafe { chamanzil_read_sector(s, stream.len(), o, out.len(), e, erasures.len(), r, report.len()) }
 }
 
+pub fn pool(bytes: &mut [u8], erasures: &mut [u8], second_bytes: &[u8], second_erasures: &[u8]) -> u32 {
+    let (b, e, s, t) = (bytes.as_mut_ptr(), erasures.as_mut_ptr(), second_bytes.as_ptr(), second_erasures.as_ptr());
+    unsafe { chamanzil_pool(b, bytes.len(), e, erasures.len(), s, second_bytes.len(), t, second_erasures.len()) }
+}
+
 pub fn repair_block(block: &mut [u8], erasures: &[u8], main: &mut [u8], report: &mut [u32]) -> u32 {
     let (b, e, m, r) = (block.as_mut_ptr(), erasures.as_ptr(), main.as_mut_ptr(), report.as_mut_ptr());
     unsafe { chamanzil_repair_block(b, block.len(), e, erasures.len(), m, main.len(), r, report.len()) }

@@ -13,7 +13,7 @@ const SUMS: usize = 10;
 /// The locators of places outside the row are alpha^k with these k.
 const OUTSIDE: std::ops::Range<usize> = ROW..255;
 
-fn other_than_0(random: &mut Random) -> u8 {
+pub fn other_than_0(random: &mut Random) -> u8 {
     1 + random.below(255) as u8
 }
 

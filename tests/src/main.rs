@@ -9,6 +9,9 @@ mod gf;
 mod library;
 mod light_test;
 mod papers;
+mod pool;
+mod pool_test;
+mod pooled_test;
 mod random;
 mod readers_test;
 mod reading;
@@ -56,6 +59,8 @@ fn round(report: &mut Report, seed: u64) {
     readers_test::all(report, &mut random, &tables, &reader);
     erasures_test::all(report, &mut random, &tables, &reader);
     runs_test::all(report, &mut random, &tables, &reader);
+    pool_test::all(report, &mut random);
+    pooled_test::all(report, &mut random, &tables, &reader);
 }
 
 /// `--trial-data FOLDER` writes cases for crate `trials`. `--long [SEED]` runs until stopped or until something differs, with a new seed each round.

@@ -11,6 +11,7 @@ pub struct Reader {
     tables: Tables,
 }
 
+#[derive(Default)]
 pub struct ReadSector {
     pub bytes: Vec<u8>,
     /// 1 for an unknown word, else 0.
@@ -91,12 +92,7 @@ impl Reader {
     pub fn sector(&self, stream: &[u8]) -> ReadSector {
         assert_eq!(stream.len(), 4_838);
         let half = |i: usize| u16::from_be_bytes([stream[2 * i], stream[2 * i + 1]]);
-        let mut read = ReadSector {
-            bytes: Vec::new(),
-            erasures: Vec::new(),
-            unknown: 0,
-            spoiled: 0,
-        };
+        let mut read = ReadSector::default();
         for (f, number) in sync_numbers().into_iter().enumerate() {
             let at = 93 * f;
             read.spoiled += u32::from(!self.is_sync(number, half(at), half(at + 1)));
@@ -110,20 +106,25 @@ impl Reader {
         read
     }
 
-    /// A whole block's stream: its sectors, then the repairer with their marks.
-    pub fn block(&self, stream: &[u8]) -> ReadBlock {
-        let (mut bytes, mut erasures) = (Vec::new(), Vec::new());
-        if stream.len() != 77_380 {
-            return ReadBlock { answer: Answer::LengthRefused, bytes, erasures };
-        }
-        let (mut unknown, mut spoiled) = (0, 0);
+    /// The sixteen sectors of a block's stream, one after the other.
+    pub fn sectors(&self, stream: &[u8]) -> ReadSector {
+        let mut all = ReadSector::default();
         for s in 0..16 {
             let read = self.sector(&stream[4836 * s..4836 * s + 4838]);
-            bytes.extend(read.bytes);
-            erasures.extend(read.erasures);
-            unknown += read.unknown;
-            spoiled += read.spoiled;
+            all.bytes.extend(read.bytes);
+            all.erasures.extend(read.erasures);
+            all.unknown += read.unknown;
+            all.spoiled += read.spoiled;
         }
+        all
+    }
+
+    /// A whole block's stream: its sectors, then the repairer with their marks.
+    pub fn block(&self, stream: &[u8]) -> ReadBlock {
+        if stream.len() != 77_380 {
+            return ReadBlock { answer: Answer::LengthRefused, bytes: Vec::new(), erasures: Vec::new() };
+        }
+        let ReadSector { mut bytes, erasures, unknown, spoiled } = self.sectors(stream);
         let mut answer = repair_block(&mut bytes, &erasures);
         if let Answer::HandedOut { tallies, .. } = &mut answer {
             tallies.unknown = unknown;

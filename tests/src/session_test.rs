@@ -4,7 +4,7 @@ use crate::library;
 use crate::random::Random;
 use crate::report::Report;
 use crate::tables::Tables;
-use crate::vectors_test::{load, record_line, text};
+use crate::vectors_test::{hash, load, record_line, text};
 use crate::writer_test::{closing_refused, compare_closing, odd_record, random_sector};
 use crate::writing::{write_sector, Record, LAID, RUN_SECTORS, SECTOR};
 use std::collections::{BTreeMap, HashMap};
@@ -54,11 +54,6 @@ fn closing(report: &mut Report, t: &Tables, kept: &mut Record, to: usize) -> Res
 }
 
 // ---- the vectors' session
-
-/// FNV-1a, by the vectors' README.
-fn hash(bytes: &[u8]) -> u64 {
-    bytes.iter().fold(0xCBF2_9CE4_8422_2325, |h, &byte| (h ^ byte as u64).wrapping_mul(0x0100_0000_01B3))
-}
 
 /// The bytes that a call names: a sector of the run, a file, or zeros; after a slash, how many of them.
 fn data(name: &str) -> Vec<u8> {

@@ -25,6 +25,11 @@ pub fn text(name: &str) -> String {
     String::from_utf8(load(name)).unwrap()
 }
 
+/// FNV-1a, by the vectors' README.
+pub fn hash(bytes: &[u8]) -> u64 {
+    bytes.iter().fold(0xCBF2_9CE4_8422_2325, |h, &byte| (h ^ byte as u64).wrapping_mul(0x0100_0000_01B3))
+}
+
 fn records_text(records: &[Record]) -> String {
     let mut lines = String::new();
     for (i, r) in records.iter().enumerate() {

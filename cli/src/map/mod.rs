@@ -9,7 +9,7 @@ use std::path::Path;
 use chamanzil::BLOCK_STREAM;
 
 use crate::arguments::{Kind, Map};
-use crate::failure::{Failure, Refused};
+use crate::failure::{Failure, Refused, THE_STREAM};
 use crate::input::Input;
 use crate::output::{self, Output};
 use crate::{say, Ending};
@@ -41,7 +41,7 @@ fn block_of(chosen: &Map, mut stream: Input) -> Result<Vec<u8>, Failure> {
 pub fn run(chosen: &Map) -> Result<Ending, Failure> {
     let kind = kind(chosen)?;
     let bytes = block_of(chosen, Input::open(&chosen.stream)?)?;
-    let refused = |refusal| Refused::in_stream(refusal, chosen.block, bytes.len());
+    let refused = |refusal| Refused::in_stream(refusal, chosen.block, THE_STREAM, bytes.len());
     let stream = bytes[..]
         .try_into()
         .map_err(|_| refused(chamanzil::Refusal::Length))?;

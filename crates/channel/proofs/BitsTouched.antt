@@ -26,7 +26,7 @@ use Rattle.channel.specs.Channel.{Item, sync, byte, nextFor, lastFor, al
 use Rattle.channel.proofs.Damage.{sameStateBits, disturbed}
 use Rattle.channel.proofs.Entries.{Taken, taken, taken-next}
 
-none-at : (t : ℕ → Bool) (k n : ℕ) → someFrom t k n ≡ false → (j : ℕ) → j < n → t (k + j) ≡ false
+pub none-at : (t : ℕ → Bool) (k n : ℕ) → someFrom t k n ≡ false → (j : ℕ) → j < n → t (k + j) ≡ false
 none-at t k zero e j h = absurd (not-suc-le-zero h)
 none-at t k (suc n) e zero h =
     let m : k + 0 ≡ k = omega arith in

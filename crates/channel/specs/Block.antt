@@ -1,6 +1,6 @@
 -- The items of a sector, a run and a block, the permitted streams (runItems, permittedRun, runStream; of one block permittedChoices, permittedStream), the bytes
--- and the marks that are read (readSector, erasuresOfSector, readBlock, erasuresOfBlock), and what damage touches (touched, heavyRows, overloadedRows).
--- "Permitted stream", "touched", "heavy row" and "overloaded row" are the project's own terms.
+-- and the marks that are read (readSector, erasuresOfSector, readBlock, erasuresOfBlock), and what damage touches (touched, heavyRows, overloadedRows; of two readings
+-- clashingRows). "Permitted stream", "touched", "heavy row", "overloaded row" and "clashing row" are the project's own terms.
 -- Assumes nothing.
 use mathlib.Core.Path.{_≡_}
 use mathlib.Core.Bool.{Bool, true, false, not, _&&_, _||_}
@@ -143,3 +143,14 @@ overloaded ys xs r = ltb 10 (2 * touchedKnownIn ys xs r + unknownIn xs r)
 -- how many rows are overloaded
 unfoldable pub overloadedRows : List ℕ → List ℕ → ℕ
 overloadedRows ys xs = countFrom (overloaded ys xs) 0 rowCount
+
+-- ---- damage of two readings: the stream ys was laid, and xs and zs are read in its place (document 02, request 8)
+
+-- row r clashes: a byte of it is touched in both, or both together have more than ten touched bytes whose word is known as it is read
+unfoldable pub clashes : List ℕ → List ℕ → List ℕ → ℕ → Bool
+clashes ys xs zs r =
+    someFrom (λ i. touched ys xs i && touched ys zs i) (r * rowSize) rowSize || ltb 10 (touchedKnownIn ys xs r + touchedKnownIn ys zs r)
+
+-- how many rows clash
+unfoldable pub clashingRows : List ℕ → List ℕ → List ℕ → ℕ
+clashingRows ys xs zs = countFrom (clashes ys xs zs) 0 rowCount

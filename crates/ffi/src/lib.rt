@@ -17,6 +17,7 @@ pub use codewords::chamanzil_ied;
 pub use codewords::chamanzil_power;
 pub use codewords::chamanzil_product;
 pub use codewords::chamanzil_row_parity;
+pub use readers::chamanzil_pool;
 pub use readers::chamanzil_read_block;
 pub use readers::chamanzil_read_sector;
 pub use readers::chamanzil_repair_block;

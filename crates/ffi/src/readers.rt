@@ -1,8 +1,11 @@
-// The sector reader, the block repairer and the whole-block reader. What they answer besides their number is laid as numbers in a report of the caller's.
+// The sector reader, two readings pooled, the block repairer and the whole-block reader. What the readers and the repairer answer besides their number is laid as
+// numbers in a report of the caller's.
 ghost use mathlib.Core.Path.{_≡_};
 ghost use lib.ListN.{length};
 ghost use Rattle.reader.specs.Sector.{sectorAnswer, sectorAfter, erasuresAfter, sectorReadRefusal};
 ghost use Rattle.repairer.specs.Answer.{repairAnswer, blockAfter, mainAfter, repairRefusal};
+ghost use Rattle.pooling.specs.Pool.{withMarks};
+ghost use Rattle.pooling.specs.Answer.{poolAfter, poolRefusal};
 ghost use Rattle.blockreader.specs.BlockReader.{blockReadAnswer, blockReadBlock, blockReadErasures, blockReadMain, blockReadRefusal};
 ghost use Rattle.ffi.specs.Answers.{sized, heldAfter};
 ghost use Rattle.ffi.specs.Readers.{sectorReportSize, repairReportSize, blockReportSize, sectorReport, repairReport, blockReport, numberOr1};
@@ -125,6 +128,29 @@ pub extern "C" fn chamanzil_read_sector(
     let answer = reader::read_sector(stream, out, erasures);
     lay_sector(answer, report);
     reader::sector_read_number(answer) as u32
+}
+
+// Two readings of one block, 37,856 bytes and as many marks each, pooled: the result replaces the first, `bytes` and `erasures`; the second, `second` and `marks`,
+// stays. 0, or refusal 1 or 11.
+#[no_mangle]
+pub extern "C" fn chamanzil_pool(
+    bytes: &mut [u8],
+    erasures: &mut [u8],
+    second: &[u8],
+    marks: &[u8],
+) -> u32
+    ensures { λ r. ⌜ r
+        ≡ poolRefusal (withMarks (now (bytes .entry)) (now (erasures .entry)))
+        (withMarks (now (second .entry)) (now (marks .entry))) ⌝ }
+    ensures { λ r. ⌜ now (bytes .exit)
+        ≡ poolAfter (withMarks (now (bytes .entry)) (now (erasures .entry)))
+        (withMarks (now (second .entry)) (now (marks .entry))) .bytes ⌝ }
+    ensures { λ r. ⌜ now (erasures .exit)
+        ≡ poolAfter (withMarks (now (bytes .entry)) (now (erasures .entry)))
+        (withMarks (now (second .entry)) (now (marks .entry))) .erasures ⌝ }
+{
+    let answer = pooling::pool(bytes, erasures, second, marks);
+    pooling::pool_number(answer) as u32
 }
 
 // A block of 37,856 bytes, repaired in place by its marks, to 32,768 main data bytes; 0, or refusal 1, 11, 4, 5 or 6. The report has the first number, the rows

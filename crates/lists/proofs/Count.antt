@@ -1,5 +1,5 @@
--- Counts of one test (count-append, count-snoc, count-weave, count-le, count-none), and of two beside each other (count-same, count-flip, count-order,
--- count-split). Distances: of a list from itself (distance-self), as a count (distance-differing), and where a test tells at which places two lists may
+-- Counts of one test (count-append, count-snoc, count-weave, count-le, count-none), and of two or three beside each other (count-same, count-flip, count-order,
+-- count-split, count-sum). Distances: of a list from itself (distance-self), as a count (distance-differing), and where a test tells at which places two lists may
 -- differ (distance-count).
 -- Assumes nothing.
 use mathlib.Core.Path.{_≡_, refl, sym, ap, ap₂, subst, _∙_}
@@ -17,6 +17,11 @@ use Rattle.lists.specs.Count.{bit, countFrom, distance}
 pub bit-le : (b : Bool) → bit b ≤ 1
 bit-le true = omega arith
 bit-le false = omega arith
+
+-- a digit as a test
+pub bit-test : (b : Bool) → eqb (bit b) 1 ≡ b
+bit-test true = refl
+bit-test false = refl
 
 pub count-append : (f : ℕ → Bool) (k a b : ℕ) → countFrom f k (a + b) ≡ countFrom f k a + countFrom f (k + a) b
 count-append f k zero b =
@@ -128,6 +133,15 @@ count-split f g k zero h = refl
 count-split f g k (suc n) h =
     let here = bit-split (f k) (g k) (h k (omega arith)) in
     let rest = count-split f g (suc k) n (λ i l. h i (omega arith)) in
+    omega arith
+
+-- where a number passes one test only if it passes one of two others, no more pass it than those together
+pub count-sum :
+    (f g h : ℕ → Bool) (k n : ℕ) → ((i : ℕ) → i < k + n → bit (f i) ≤ bit (g i) + bit (h i)) → countFrom f k n ≤ countFrom g k n + countFrom h k n
+count-sum f g h k zero l = omega arith
+count-sum f g h k (suc n) l =
+    let here = l k (omega arith) in
+    let rest = count-sum f g h (suc k) n (λ i m. l i (omega arith)) in
     omega arith
 
 -- ---- distances

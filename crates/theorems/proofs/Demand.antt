@@ -160,13 +160,13 @@ module _ {previous : Previous} (main : List ℕ) (first info : ℕ) (ok : Accept
   laid-back m hx few = laid-farther m hx (omega (arith, overloaded-heavy m xs hx, few))
 
 -- block k of the bytes of a run of more than k blocks is 77,380 bytes
-part-length : (xs : List ℕ) (k n : ℕ) → k < n → length xs ≡ runSize n → length (blockPart xs k) ≡ streamSize
+pub part-length : (xs : List ℕ) (k n : ℕ) → k < n → length xs ≡ runSize n → length (blockPart xs k) ≡ streamSize
 part-length xs k n h e = length-take-le streamSize (drop (sectorsStream * k) xs) (omega (arith, length-drop (sectorsStream * k) xs))
 
-part-bytes : (xs : List ℕ) (k : ℕ) → Bytes xs → Bytes (blockPart xs k)
+pub part-bytes : (xs : List ℕ) (k : ℕ) → Bytes xs → Bytes (blockPart xs k)
 part-bytes xs k h = take-bytes streamSize (drop (sectorsStream * k) xs) (drop-bytes (sectorsStream * k) xs h)
 
-in-run : (before : List BlockInput) (i : BlockInput) (after : List BlockInput) → length before < length (before ++ i ∷ after)
+pub in-run : (before : List BlockInput) (i : BlockInput) (after : List BlockInput) → length before < length (before ++ i ∷ after)
 in-run before i after = omega (arith, length-append before (i ∷ after))
 
 pub demand3 : Demand3

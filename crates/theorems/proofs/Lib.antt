@@ -4,6 +4,7 @@ pub mod ReadBytes
 pub mod Runs
 pub mod Demand
 pub mod Undamaged
+pub mod Pooled
 pub mod FormatBack
 pub mod RunChecked
 pub mod Trials

@@ -11,7 +11,7 @@ use lib.Dec.{T, eqb, ltb→lt, lt→ltb}
 use lib.ListN.{length, getD}
 use Rattle.lists.specs.Bytes.{Bytes}
 use Rattle.lists.specs.Count.{bit, countFrom}
-use Rattle.lists.proofs.Count.{count-same, count-order}
+use Rattle.lists.proofs.Count.{bit-test, count-same, count-order}
 use Rattle.lists.proofs.Fill.{length-tabulateFrom, getD-tabulateFrom}
 use Rattle.codes.specs.Erasures.{isErased, erasureCount, errorCount, nearestErased}
 use Rattle.layout.specs.Lengths.{rowCount, rowSize}
@@ -21,15 +21,10 @@ use Rattle.eccblock.specs.Block.{block}
 use Rattle.eccblock.specs.Encode.{Accepted}
 use Rattle.eccblock.specs.declared.Previous.{Previous}
 use Rattle.channel.specs.Block.{readAt, readBlock, unknownAt, erasuresOfBlock, touched, unknownIn, touchedKnownIn, overloaded, overloadedRows}
-use Rattle.channel.proofs.Rows.{LaidBlock, reading}
+use Rattle.channel.proofs.Rows.{LaidBlock, reading, reading-known}
 use Rattle.channel.proofs.Sectors.{read-row, erasures-row}
 use Rattle.theorems.proofs.ReadBytes.{read-block-length, read-block-bytes}
 use Rattle.theorems.proofs.Chain.{farRow, farRows, row-back}
-
--- a mark is a test as a digit
-digit-test : (b : Bool) → eqb (bit b) 1 ≡ b
-digit-test true = refl
-digit-test false = refl
 
 -- a shifted count
 count-from : (f : ℕ → Bool) (a n : ℕ) → countFrom f a n ≡ countFrom (λ i. f (a + i)) 0 n
@@ -45,7 +40,7 @@ module _ {bs ys : List ℕ} (laid : LaidBlock bs ys) (xs : List ℕ) (hx : Bytes
   marked : (i : ℕ) → i < rowSize → isErased marks i ≡ unknownAt xs (r * rowSize + i)
   marked i l =
       ap (λ (m : List ℕ). isErased m i) (erasures-row xs r hr)
-      ∙ ap (λ (b : ℕ). eqb b 1) (getD-tabulateFrom (λ i. bit (unknownAt xs i)) (r * rowSize) rowSize i l) ∙ digit-test (unknownAt xs (r * rowSize + i))
+      ∙ ap (λ (b : ℕ). eqb b 1) (getD-tabulateFrom (λ i. bit (unknownAt xs i)) (r * rowSize) rowSize i l) ∙ bit-test (unknownAt xs (r * rowSize + i))
 
   -- f of the row repair is the row's unknown words,
   erasures≡unknown : erasureCount marks rowSize ≡ unknownIn xs r
@@ -55,23 +50,28 @@ module _ {bs ys : List ℕ} (laid : LaidBlock bs ys) (xs : List ℕ) (hx : Bytes
   read-length : length read ≡ rowSize
   read-length = ap length (read-row xs r hr) ∙ length-tabulateFrom (readAt xs) (r * rowSize) rowSize
 
-  -- a byte that differs and is not marked is touched
+  -- a byte that is not touched is read right,
+  pub untouched-right : (i : ℕ) → i < rowSize → touched ys xs (r * rowSize + i) ≡ false → getD read i 0 ≡ getD (rowOf bs r) i 0
+  untouched-right i l t =
+      ap (λ (w : List ℕ). getD w i 0) (read-row xs r hr) ∙ getD-tabulateFrom (readAt xs) (r * rowSize) rowSize i l
+      ∙ reading laid xs hx (r * rowSize + i) (omega arith) t ∙ sym (row-byte bs r i l)
+
+  -- and unmarked
+  pub untouched-unmarked : (i : ℕ) → i < rowSize → touched ys xs (r * rowSize + i) ≡ false → isErased marks i ≡ false
+  untouched-unmarked i l t = marked i l ∙ reading-known laid xs hx (r * rowSize + i) (omega arith) t
+
+  -- so one that differs and is not marked is touched
   differs : (i : ℕ) → i < rowSize → T (not (isErased marks i) && not (eqb (getD read i 0) (getD (rowOf bs r) i 0)))
       → T (not (unknownAt xs (r * rowSize + i)) && touched ys xs (r * rowSize + i))
   differs i l h = go (unknownAt xs (r * rowSize + i)) (touched ys xs (r * rowSize + i)) refl (subst (λ (b : Bool). T (not b && not (eqb (getD read i 0) (getD (rowOf bs r) i 0)))) (marked i l) h)
     where
-      same : touched ys xs (r * rowSize + i) ≡ false → getD read i 0 ≡ getD (rowOf bs r) i 0
-      same t =
-          ap (λ (w : List ℕ). getD w i 0) (read-row xs r hr) ∙ getD-tabulateFrom (readAt xs) (r * rowSize) rowSize i l
-          ∙ reading laid xs hx (r * rowSize + i) (omega arith) t ∙ sym (row-byte bs r i l)
-
       go : (u t : Bool) → touched ys xs (r * rowSize + i) ≡ t → T (not u && not (eqb (getD read i 0) (getD (rowOf bs r) i 0))) → T (not u && t)
       go true t e k = k
       go false true e k = tt
-      go false false e k = subst (λ (b : Bool). T (not b)) (eq-eqb (getD read i 0) (getD (rowOf bs r) i 0) (same e)) k
+      go false false e k = subst (λ (b : Bool). T (not b)) (eq-eqb (getD read i 0) (getD (rowOf bs r) i 0) (untouched-right i l e)) k
 
   -- and e is at most the other touched bytes
-  errors≤touched : errorCount marks read (rowOf bs r) ≤ touchedKnownIn ys xs r
+  pub errors≤touched : errorCount marks read (rowOf bs r) ≤ touchedKnownIn ys xs r
   unfolding errorCount touchedKnownIn
   errors≤touched =
       subst (λ (n : ℕ). countFrom f 0 n ≤ countFrom g (r * rowSize) rowSize) (sym read-length)

@@ -1,6 +1,9 @@
-//! What the tests share: numbers by a fixed rule, and blocks whose frames are edited with their parity made anew.
+//! What the tests share: numbers by a fixed rule, blocks whose frames are edited with their parity made anew, and a block as the sector reader reads it.
 #![allow(dead_code, missing_docs)]
-use chamanzil::{column_parity, row_parity, BLOCK, MAIN, STREAM};
+use chamanzil::{column_parity, read_sector, row_parity};
+use chamanzil::{BLOCK, MAIN, SECTOR, SECTOR_READ, SECTOR_STREAM, STREAM};
+
+pub type Block = Box<[u8; BLOCK]>;
 
 /// Numbers by a fixed rule (xorshift).
 pub struct Numbers(u64);
@@ -84,4 +87,17 @@ pub fn stream_of(block: &[u8; BLOCK]) -> Box<[u8; STREAM]> {
         .unwrap();
     writer.close(closing.try_into().unwrap()).unwrap();
     stream.into_boxed_slice().try_into().unwrap()
+}
+
+/// The sector reader's bytes and marks, sector by sector, and how many words are unknown.
+pub fn by_sectors(stream: &[u8; STREAM]) -> (Block, Block, u32) {
+    let (mut block, mut erasures, mut unknown) = (buffer(0), buffer(0), 0);
+    for k in 0..16 {
+        let part = &stream[k * SECTOR_STREAM..k * SECTOR_STREAM + SECTOR_READ];
+        let read = read_sector(part.try_into().unwrap());
+        block[k * SECTOR..(k + 1) * SECTOR].copy_from_slice(&read.bytes[..]);
+        erasures[k * SECTOR..(k + 1) * SECTOR].copy_from_slice(&read.erasures[..]);
+        unknown += read.unknown;
+    }
+    (block, erasures, unknown)
 }
