@@ -1,6 +1,6 @@
 /* Formats a block, sector by sector with trials, damages its stream and reads it back, in one call, sector by sector with the marks of unknown words, and from two
- * damaged readings pooled; then writes a run of two blocks and reads each, by the calls of chamanzil.h. Exits with 1 where anything differs from what is due. It is C99 and also C++:
- * include/run compiles it as both. */
+ * damaged readings pooled; then writes a run of two blocks and reads each, by the calls of chamanzil.h. Exits with 1 where anything differs from what is due. It
+ * is C99 and also C++: include/run compiles it as both. */
 #include "chamanzil.h"
 
 #include <stdio.h>

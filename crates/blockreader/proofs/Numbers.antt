@@ -6,14 +6,11 @@ use mathlib.Core.Bool.{Bool, true, false, cond}
 use mathlib.Core.List.{List}
 use Prim.Native.Nat.{ℕ, _≤_}
 use native.Mathlib.Omega.{arith}
-use borrow.Author.Tests.{le-leb}
-use lib.Dec.{leb, ltb}
+use lib.Dec.{ltb}
 use lib.ListN.{length, getD}
 use Rattle.lists.specs.Count.{bit}
-use Rattle.lists.specs.Test.{below}
 use Rattle.lists.proofs.Count.{bit-le}
 use Rattle.lists.proofs.Fill.{length-tabulate, getD-tabulate}
-use Rattle.lists.proofs.Test.{truth, truth-of, below-all}
 use Rattle.layout.specs.Lengths.{blockSize}
 use Rattle.channel.specs.Block.{readBlock, unknownAt, erasuresOfBlock}
 use Rattle.channel.proofs.Sectors.{erasures-block}
@@ -22,6 +19,7 @@ use Rattle.repairer.specs.Repair.{repaired}
 use Rattle.repairer.specs.Answer.{frameFault, lengthsFit, marksFit, repairAnswer, noFrame, refusedFrame, repairRefusal, repairNumber, repairFrame}
 use Rattle.repairer.specs.declared.Repaired.{Repaired}
 use Rattle.repairer.specs.declared.Repaired.the-variants.{Block, FrameRefused, ErasureRefused, LengthRefused as RepairedLength}
+use Rattle.repairer.proofs.Marks.{marks-fit-all}
 use Rattle.repairer.proofs.Numbers.{repair-number, repair-frame, fault-small}
 use Rattle.blockreader.specs.BlockReader.{sectorSum, withSums, blockFits, blockReadAnswer, blockReadRefusal, blockReadRefusedFrame, blockReadNumber, blockReadFrame}
 use Rattle.blockreader.specs.declared.BlockRead.{BlockRead}
@@ -68,21 +66,14 @@ marks-length xs = ap length (erasures-block xs) ∙ length-tabulate (λ i. bit (
 
 -- are 0 or 1
 pub marks-fit : (xs : List ℕ) → marksFit (erasuresOfBlock xs) ≡ true
-unfolding marksFit
 marks-fit xs =
-    truth (below (length ms) (λ i. leb (getD ms i 0) 1))
-    (below-all (length ms) (λ i. leb (getD ms i 0) 1)
+    marks-fit-all (erasuresOfBlock xs)
     (λ i l.
-    truth-of (leb (getD ms i 0) 1)
-    (le-leb (getD ms i 0) 1
-    (omega (
+    omega (
       arith,
       ap (λ (ys : List ℕ). getD ys i 0) (erasures-block xs) ∙ getD-tabulate (λ i. bit (unknownAt xs i)) blockSize i (omega (arith, marks-length xs)),
       bit-le (unknownAt xs i),
-    )))))
-  where
-    ms : List ℕ
-    ms = erasuresOfBlock xs
+    ))
 
 -- so that the whole-block reader is never refused with 11
 pub never-eleven : (xs : List ℕ) (b e m : ℕ) → blockReadRefusal xs b e m ≤ 6

@@ -1,37 +1,29 @@
--- What holds of every pooling: at a place (pooled-byte, pooled-mark, mark-at); it does not matter which reading is the first (pool-swap); a reading pooled with itself
+-- What holds of every pooling: at a place (pooled-byte, pooled-mark); it does not matter which reading is the first (pool-swap); a reading pooled with itself
 -- is that reading with byte 0 at the marked places (pool-self); what is pooled from bytes with marks of 0 or 1 is such again (pooled-bytes, pooled-marks-fit).
 -- Assumes nothing.
 use mathlib.Core.Path.{_≡_, refl, sym, ap, ap₂, _∙_}
 use mathlib.Core.Bool.{Bool, true, false, not, cond}
-use mathlib.Core.List.{List}
 use Prim.Native.Nat.{ℕ, _+_, _<_, _≤_}
 use native.Mathlib.Omega.{arith}
-use borrow.Author.Tests.{eq-eqb, ne-eqb, eqb-true, eqb-false, le-leb}
-use lib.Dec.{eqb, leb, leb→le}
+use borrow.Author.Tests.{eq-eqb, ne-eqb, eqb-true, eqb-false}
+use lib.Dec.{eqb}
 use lib.ListN.{length, getD}
 use Rattle.lists.specs.Bytes.{Bytes}
 use Rattle.lists.specs.Count.{bit}
-use Rattle.lists.specs.Test.{below}
 use Rattle.lists.proofs.Bytes.{getD-byte, tabulate-bytes}
 use Rattle.lists.proofs.Count.{bit-le, bit-test}
 use Rattle.lists.proofs.Fill.{length-tabulate, getD-tabulate, is-tabulate, tabulate-same}
-use Rattle.lists.proofs.Test.{truth, truth-of, below-at, below-all}
 use Rattle.repairer.specs.Answer.{marksFit}
+use Rattle.repairer.proofs.Marks.{mark-at, marks-fit-all}
 use Rattle.pooling.specs.Pool.{MarkedBytes, withMarks, byteAt, markedAt, pooledByte, pooledMark, pooled, zeroed}
 
--- ---- a mark that is 0 or 1
-
--- is the digit of its test
+-- a mark that is 0 or 1 is the digit of its test
 pub mark-digit : (m : ℕ) → m ≤ 1 → bit (eqb m 1) ≡ m
 mark-digit m l = go (eqb m 1) refl
   where
     go : (t : Bool) → eqb m 1 ≡ t → bit t ≡ m
     go true e = sym (eqb-true m 1 e)
     go false e = omega (arith, eqb-false m 1 e)
-
-pub mark-at : (ms : List ℕ) → marksFit ms ≡ true → (i : ℕ) → i < length ms → getD ms i 0 ≤ 1
-unfolding marksFit
-mark-at ms fit i l = leb→le (getD ms i 0) 1 (below-at (length ms) (λ j. leb (getD ms j 0) 1) (truth-of (below (length ms) (λ j. leb (getD ms j 0) 1)) fit) i l)
 
 -- ---- one place
 
@@ -78,10 +70,6 @@ byte-small true x true y h k = omega arith
 
 -- ---- all places
 
--- a reading is its bytes and its marks
-same-reading : {xs ys ms ns : List ℕ} → xs ≡ ys → ms ≡ ns → withMarks xs ms ≡ withMarks ys ns
-same-reading e f = ap₂ withMarks e f
-
 module _ (a b : MarkedBytes) where
   pub pooled-length : length (pooled a b .bytes) ≡ length (a .bytes)
   unfolding pooled
@@ -110,26 +98,21 @@ module _ (a b : MarkedBytes) where
       (λ i. byte-small (markedAt a i) (byteAt a i) (markedAt b i) (byteAt b i) (getD-byte (a .bytes) i h) (getD-byte (b .bytes) i k))
 
   pub pooled-marks-fit : marksFit (pooled a b .erasures) ≡ true
-  unfolding marksFit
   pooled-marks-fit =
-      let ms = pooled a b .erasures in
-      truth (below (length ms) (λ i. leb (getD ms i 0) 1))
-      (below-all (length ms) (λ i. leb (getD ms i 0) 1)
+      marks-fit-all (pooled a b .erasures)
       (λ i l.
-      truth-of (leb (getD ms i 0) 1)
-      (le-leb (getD ms i 0) 1
-      (omega (
+      omega (
         arith,
         pooled-digit i (omega (arith, pooled-erasures-length)),
         bit-le (pooledMark (markedAt a i) (byteAt a i) (markedAt b i) (byteAt b i)),
-      )))))
+      ))
 
   -- POOLING IS SYMMETRIC
   pub pool-swap : length (a .bytes) ≡ length (b .bytes) → pooled a b ≡ pooled b a
   unfolding pooled
   pool-swap e =
       rw (sym e)
-      (same-reading
+      (ap₂ withMarks
       (tabulate-same (λ i. pooledByte (markedAt a i) (byteAt a i) (markedAt b i) (byteAt b i)) (λ i. pooledByte (markedAt b i) (byteAt b i) (markedAt a i) (byteAt a i)) 0 0
       (length (a .bytes)) (λ i l. byte-swap (markedAt a (0 + i)) (byteAt a (0 + i)) (markedAt b (0 + i)) (byteAt b (0 + i))))
       (tabulate-same (λ i. bit (pooledMark (markedAt a i) (byteAt a i) (markedAt b i) (byteAt b i)))
@@ -140,7 +123,7 @@ module _ (a b : MarkedBytes) where
 pub pool-self : (a : MarkedBytes) → length (a .erasures) ≡ length (a .bytes) → marksFit (a .erasures) ≡ true → pooled a a ≡ zeroed a
 unfolding pooled zeroed
 pool-self a e fit =
-    same-reading
+    ap₂ withMarks
     (tabulate-same (λ i. pooledByte (markedAt a i) (byteAt a i) (markedAt a i) (byteAt a i)) (λ i. cond (markedAt a i) 0 (byteAt a i)) 0 0 (length (a .bytes))
     (λ i l. byte-self (markedAt a (0 + i)) (byteAt a (0 + i))))
     (sym (is-tabulate (λ i. bit (pooledMark (markedAt a i) (byteAt a i) (markedAt a i) (byteAt a i))) (a .erasures) (length (a .bytes)) e

@@ -6,14 +6,12 @@ use mathlib.Core.Bool.{Bool, true, false, cond, _&&_}
 use mathlib.Core.List.{List}
 use Prim.Native.Nat.{ℕ, _+_, _/_, _%_, _<_}
 use native.Mathlib.Omega.{arith}
-use borrow.Author.Tests.{eq-eqb, eqb-true, le-leb}
-use lib.Dec.{eqb, leb}
+use borrow.Author.Tests.{eq-eqb, eqb-true}
+use lib.Dec.{eqb}
 use lib.ListN.{length, getD}
 use Rattle.lists.specs.Fill.{tabulate}
-use Rattle.lists.specs.Test.{below}
 use Rattle.lists.proofs.Count.{count-same}
 use Rattle.lists.proofs.Fill.{tabulate-same}
-use Rattle.lists.proofs.Test.{truth, truth-of, below-all}
 use Rattle.codes.specs.Nearest.{nearest, outcomeOf}
 use Rattle.codes.specs.Erasures.{isErased, nearestErased, outcomeErased}
 use Rattle.codes.specs.declared.Outcome.{Outcome}
@@ -28,6 +26,7 @@ use Rattle.repairer.specs.declared.Tally.{Tally}
 use Rattle.repairer.specs.declared.Tallies.{Tallies}
 use Rattle.repairer.specs.declared.Repaired.{Repaired}
 use Rattle.repairer.specs.declared.Repaired.the-variants.{Block, ErasureRefused, LengthRefused}
+use Rattle.repairer.proofs.Marks.{marks-fit-all}
 
 -- ---- the repairer of document 01
 
@@ -91,11 +90,7 @@ module _ (xs ms : List ℕ) (small : (i : ℕ) → getD xs i 0 < 256) (sized : l
     repaired-unmarked = ap columnsRepaired rows-unmarked
 
   marks-fit : marksFit ms ≡ true
-  unfolding marksFit
-  marks-fit =
-      truth (below (length ms) (λ i. leb (getD ms i 0) 1))
-      (below-all (length ms) (λ i. leb (getD ms i 0) 1)
-      (λ i l. truth-of (leb (getD ms i 0) 1) (le-leb (getD ms i 0) 1 (omega (arith, zeros i (omega (arith, l, sized)))))))
+  marks-fit = marks-fit-all ms (λ i l. omega (arith, zeros i (omega (arith, l, sized))))
 
   lengths-fit : (n : ℕ) → lengthsFit xs ms n ≡ bothFit xs n
   unfolding lengthsFit

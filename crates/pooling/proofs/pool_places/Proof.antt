@@ -7,8 +7,8 @@ use lib.ListN.{length}
 use Rattle.lists.specs.Count.{bit}
 use Rattle.lists.proofs.Fill.{Upto, upto-none, upto-more, upto-all}
 use Rattle.layout.specs.Lengths.{blockSize}
+use Rattle.repairer.proofs.Marks.{mark-at}
 use Rattle.pooling.specs.Pool.{withMarks, byteAt, markedAt, pooledByte, pooledMark, pooled}
-use Rattle.pooling.proofs.Laws.{mark-at}
 use Rattle.pooling.proofs.pool_places.Statement.{statement}
 use Rattle.pooling.proofs.pool_places.Tie as tie
 
