@@ -127,6 +127,27 @@ fn is_sized(bytes: usize, erasures: usize) -> bool
     erasures == BLOCK_SIZE
 }
 
+// Whether the four buffers have it.
+fn lengths_fit(bytes: usize, erasures: usize, second: usize, marks: usize) -> bool
+    ensures { λ r. ⌜ r
+        ≡ ((eqb bytes blockSize && eqb erasures blockSize) && (eqb second blockSize && eqb marks blockSize)) ⌝ }
+{
+    if !is_sized(bytes, erasures) {
+        return false;
+    }
+    is_sized(second, marks)
+}
+
+// Whether each mark of either reading is 0 or 1.
+fn both_marks_fit(erasures: &[u8], marks: &[u8]) -> bool
+    ensures { λ r. ⌜ r ≡ (marksFit (now (erasures .entry)) && marksFit (now (marks .entry))) ⌝ }
+{
+    if !repairer::marks_fit(erasures) {
+        return false;
+    }
+    repairer::marks_fit(marks)
+}
+
 // Pools two readings of one block, each of 37,856 bytes and as many marks, 1 where a byte is marked. The result replaces the first, `bytes` and `erasures`;
 // the second, `second` and `marks`, stays. Where something is refused, everything is left as it was.
 pub fn pool(bytes: &mut [u8], erasures: &mut [u8], second: &[u8], marks: &[u8]) -> Pooling
@@ -143,16 +164,10 @@ pub fn pool(bytes: &mut [u8], erasures: &mut [u8], second: &[u8], marks: &[u8]) 
         ≡ poolAfter (withMarks (now (bytes .entry)) (now (erasures .entry)))
         (withMarks (now (second .entry)) (now (marks .entry))) .erasures ⌝ }
 {
-    if !is_sized(bytes.len(), erasures.len()) {
+    if !lengths_fit(bytes.len(), erasures.len(), second.len(), marks.len()) {
         return Pooling::LengthRefused;
     }
-    if !is_sized(second.len(), marks.len()) {
-        return Pooling::LengthRefused;
-    }
-    if !repairer::marks_fit(erasures) {
-        return Pooling::ErasureRefused;
-    }
-    if !repairer::marks_fit(marks) {
+    if !both_marks_fit(erasures, marks) {
         return Pooling::ErasureRefused;
     }
     pool_places(bytes, erasures, second, marks);

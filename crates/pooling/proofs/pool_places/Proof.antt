@@ -3,7 +3,8 @@ use mathlib.Core.Path.{_≡_, refl, sym, subst, _∙_}
 use mathlib.Core.List.{List}
 use Prim.Native.Nat.{ℕ, _-_, _≤_}
 use native.Mathlib.Omega.{arith}
-use lib.ListN.{length}
+use borrow.Author.Needs.{needs}
+use lib.ListN.{length, length-set}
 use Rattle.lists.specs.Count.{bit}
 use Rattle.lists.proofs.Fill.{Upto, upto-none, upto-more, upto-all}
 use Rattle.layout.specs.Lengths.{blockSize}
@@ -20,27 +21,20 @@ abbrev mark : List ℕ → List ℕ → List ℕ → List ℕ → ℕ → ℕ
 mark xs ms ys ns i = bit (pooledMark (markedAt (withMarks xs ms) i) (byteAt (withMarks xs ms) i) (markedAt (withMarks ys ns) i) (byteAt (withMarks ys ns) i))
 
 abbrev Inv-loop : tie.InvT-loop
-Inv-loop xs ms ys ns i₀ bytes erasures i = (i ≤ blockSize) × Upto (byte xs ms ys ns) xs bytes i × Upto (mark xs ms ys ns) ms erasures i
+Inv-loop xs ms ys ns i₀ bytes erasures i =
+    (i ≤ blockSize) × Upto (byte xs ms ys ns) xs bytes i × Upto (mark xs ms ys ns) ms erasures i × (length bytes ≡ blockSize) × (length erasures ≡ blockSize)
 
 abbrev μ-loop : tie.MeasureT-loop
 μ-loop xs ms ys ns i₀ bytes erasures i = blockSize - i
 
 loop-holds : tie.Need-loop-holds Inv-loop μ-loop
-loop-holds c = (omega arith, upto-none _ _, upto-none _ _)
+loop-holds c = (omega arith, upto-none _ _, upto-none _ _, search needs, search needs)
 
 slice-read-t11 : tie.Need-slice-read-t11 Inv-loop μ-loop
-slice-read-t11 c =
-    let turn = c .before .before in
-    let lent = turn .before .before .before in
-    let start = lent .before .before in
-    omega (arith, turn .loop .inv .1 .same, start .pre .0 .0)
+slice-read-t11 c = omega arith
 
 slice-read-t13 : tie.Need-slice-read-t13 Inv-loop μ-loop
-slice-read-t13 c =
-    let turn = c .before .before .before in
-    let lent = turn .before .before .before in
-    let start = lent .before .before in
-    omega (arith, turn .loop .inv .2 .same, start .pre .0 .1)
+slice-read-t13 c = omega arith
 
 shared-slice-read-t11 : tie.Need-shared-slice-read-t11 Inv-loop μ-loop
 shared-slice-read-t11 c = omega arith
@@ -61,20 +55,10 @@ pooled-place-requires c κs =
     )
 
 slice-write-bytes : tie.Need-slice-write-bytes Inv-loop μ-loop
-slice-write-bytes c =
-    let called = c .before .before .before in
-    let turn = called .before .before .before in
-    let lent = turn .before .before .before in
-    let start = lent .before .before in
-    omega (arith, turn .loop .inv .1 .same, start .pre .0 .0)
+slice-write-bytes c = omega arith
 
 slice-write-erasures : tie.Need-slice-write-erasures Inv-loop μ-loop
-slice-write-erasures c =
-    let called = c .before .before .before in
-    let turn = called .before .before .before in
-    let lent = turn .before .before .before in
-    let start = lent .before .before in
-    omega (arith, turn .loop .inv .2 .same, start .pre .0 .1)
+slice-write-erasures c = omega arith
 
 add-i : tie.Need-add-i Inv-loop μ-loop
 add-i c = omega arith
@@ -96,8 +80,10 @@ loop-again c =
     let x = l .inv .1 .left (l .i) (omega arith) in
     let m = l .inv .2 .left (l .i) (omega arith) in (
       omega arith,
-      upto-more (byte xs ms ys ns) xs (l .bytes) (l .i) _ (omega (arith, l .inv .1 .same, start .pre .0 .0)) (rw (x, m) at (c .pooled-place .ensures .0)) (l .inv .1),
-      upto-more (mark xs ms ys ns) ms (l .erasures) (l .i) _ (omega (arith, l .inv .2 .same, start .pre .0 .1)) (rw (x, m) at (c .pooled-place .ensures .1)) (l .inv .2),
+      upto-more (byte xs ms ys ns) xs (l .bytes) (l .i) _ (omega arith) (rw (x, m) at (c .pooled-place .ensures .0)) (l .inv .1),
+      upto-more (mark xs ms ys ns) ms (l .erasures) (l .i) _ (omega arith) (rw (x, m) at (c .pooled-place .ensures .1)) (l .inv .2),
+      length-set (l .bytes) (l .i) _ ∙ l .inv .3,
+      length-set (l .erasures) (l .i) _ ∙ l .inv .4,
     )
 
 same-length : tie.Need-same-length Inv-loop μ-loop
