@@ -1,4 +1,4 @@
-//! The course page on the light repair, number by number. Its numbers stand in code, as equations, and each part of them is worked out here; its rows are held
+//! The course's pages. How far one byte reaches: its equations, and the bytes that it adds. The light repair, number by number. Its numbers stand in code, as equations, and each part of them is worked out here; its rows are held
 //! against the library and the second decoder, its tables against the field.
 //!
 //! Commas part equations. An equation has parts between the signs = ≠ <, and each sign has to hold between its neighbours. A part has + − · / ² ^ log, brackets,
@@ -6,6 +6,7 @@
 use crate::gf::Field;
 use crate::library::{self, HEAVIER, REPAIRED};
 use crate::papers::root;
+use crate::reach_test;
 use crate::report::Report;
 use crate::rs::Code;
 use std::collections::HashMap;
@@ -79,6 +80,7 @@ fn combined(f: &Field, left: Value, sign: char, right: Value) -> Option<Value> {
         (Element(a), '^', Number(n)) => Some(Element(f.power(a, u64::try_from(n).ok()?))),
         (Number(a), '+', Number(b)) => a.checked_add(b).map(Number),
         (Number(a), '−', Number(b)) => a.checked_sub(b).map(Number),
+        (Number(a), '·', Number(b)) => a.checked_mul(b).map(Number),
         _ => None,
     }
 }
@@ -427,9 +429,29 @@ fn check_page(report: &mut Report, text: &str) {
     check_tables(report, &sections);
 }
 
+fn page(name: &str) -> String {
+    std::fs::read_to_string(root().join("docs/course").join(name)).unwrap()
+}
+
 pub fn light_repair(report: &mut Report) {
     report.begin("course: light repair by hand");
-    let page = root().join("docs/course/light-repair.md");
-    check_page(report, &std::fs::read_to_string(page).unwrap());
+    check_page(report, &page("light-repair.md"));
+    report.end();
+}
+
+/// Every equation holds, those of the two figures are there, and the bytes that make the least difference are the tests' own.
+pub fn reach(report: &mut Report) {
+    report.begin("course: how far one byte reaches");
+    let text = page("reach.md");
+    let mut section = Section::new("reach");
+    let code = text.split('`').filter(|piece| !piece.contains("](") && piece.contains(" = "));
+    code.flat_map(str::lines).filter(|line| !line.is_empty()).for_each(|line| section.equations(report, line));
+    for (equation, figure) in [("5 + 80 + 180", reach_test::MOST), ("17 · 11", reach_test::LEAST), ("11 · (1 + 16)", reach_test::LEAST)] {
+        let due = format!("{equation} = {figure}");
+        report.check(section.equations.contains(&due), || format!("no {due}"));
+    }
+    for line in reach_test::lightest_lines() {
+        report.check(text.lines().any(|other| other == line), || format!("no line {line}"));
+    }
     report.end();
 }

@@ -8,11 +8,13 @@ mod erasures_test;
 mod gf;
 mod library;
 mod light_test;
+mod nine_rows_test;
 mod papers;
 mod pool;
 mod pool_test;
 mod pooled_test;
 mod random;
+mod reach_test;
 mod readers_test;
 mod reading;
 mod report;
@@ -46,6 +48,7 @@ fn round(report: &mut Report, seed: u64) {
     let (tables, reader) = (Tables::new(), Reader::new());
     blocks_test::maker(report, &mut random, 1_000);
     blocks_test::maker_refusals(report, &mut random);
+    reach_test::all(report, &mut random);
     blocks_test::words(report, &mut random, &reader);
     blocks_test::streams(report, &mut random, &tables, 20);
     writer_test::blocks(report, &mut random, &tables, 200);
@@ -57,17 +60,22 @@ fn round(report: &mut Report, seed: u64) {
     writer_test::refusals(report, &mut random, &tables, 20_000);
     session_test::random_sessions(report, &mut random, &tables, 10_000);
     readers_test::all(report, &mut random, &tables, &reader);
+    nine_rows_test::all(report, &mut random, &tables, &reader, 20);
     erasures_test::all(report, &mut random, &tables, &reader);
     runs_test::all(report, &mut random, &tables, &reader);
     pool_test::all(report, &mut random);
     pooled_test::all(report, &mut random, &tables, &reader);
 }
 
-/// `--trial-data FOLDER` writes cases for crate `trials`. `--long [SEED]` runs until stopped or until something differs, with a new seed each round.
+/// `--trial-data FOLDER` writes cases for crate `trials`, `--drawing` writes docs/course/reach.svg. `--long [SEED]` runs until stopped or until something differs, with a new seed each round.
 fn main() -> ExitCode {
     let words: Vec<String> = std::env::args().skip(1).collect();
     if words.first().is_some_and(|w| w == "--trial-data") {
         trial_data::write(Path::new(&words[1])).expect("the folder of the trials' data");
+        return ExitCode::SUCCESS;
+    }
+    if words.first().is_some_and(|w| w == "--drawing") {
+        std::fs::write(papers::root().join("docs/course/reach.svg"), reach_test::drawing()).expect("the course's drawing");
         return ExitCode::SUCCESS;
     }
     let is_long = words.first().is_some_and(|w| w == "--long");
@@ -75,6 +83,7 @@ fn main() -> ExitCode {
     let mut report = Report::new();
     papers::all(&mut report);
     course_test::light_repair(&mut report);
+    course_test::reach(&mut report);
     tidy::all(&mut report);
     loop {
         println!("seed {seed}");

@@ -1,10 +1,10 @@
--- A byte that no changed bit touches is not disturbed (bits-touched), a stream that is read as it was laid has no touched byte (untouched), and a permitted stream
--- is of bytes (stream-bytes).
+-- A byte that no changed bit touches is not disturbed (bits-touched), one whose bytes of the stream are read as they were laid is not touched (untouched-where, and so
+-- no byte of a stream that is read as it was laid, untouched), and a permitted stream is of bytes (stream-bytes).
 -- Assumes nothing.
 use mathlib.Core.Path.{_≡_, refl, sym, ap, ap₂, subst, _∙_}
 use mathlib.Core.Bool.{Bool, true, false, not, _&&_, _||_}
 use mathlib.Core.List.{List, [], _∷_}
-use Prim.Native.Nat.{ℕ, zero, suc, _+_, _*_, _/_, _%_, _<_}
+use Prim.Native.Nat.{ℕ, zero, suc, _+_, _*_, _-_, _^_, _/_, _%_, _<_, _≤_}
 use native.Mathlib.Nat.{not-suc-le-zero, le-of-suc-le-suc}
 use native.Mathlib.Omega.{arith}
 use borrow.Author.Tests.{not-false, eqb-true, eq-eqb}
@@ -96,17 +96,27 @@ bits-touched ys xs by bx i e =
 
 -- ---- nothing is touched where nothing was changed
 
-unchanged : (ys : List ℕ) (j : ℕ) → changed ys ys j ≡ false
-unfolding changed
-unchanged ys j = rw (eq-eqb (bitAt ys j) (bitAt ys j) refl)
+unchanged : (ys xs : List ℕ) (j : ℕ) → getD xs (j / 8) 0 ≡ getD ys (j / 8) 0 → changed ys xs j ≡ false
+unfolding changed bitAt
+unchanged ys xs j e = ap not (eq-eqb (bitAt xs j) (bitAt ys j) (ap (λ (v : ℕ). v / 2 ^ (7 - j % 8) % 2) e))
 
-none-of : (t : ℕ → Bool) → ((j : ℕ) → t j ≡ false) → (k n : ℕ) → someFrom t k n ≡ false
-none-of t h k zero = refl
-none-of t h k (suc n) = rw (h k) (none-of t h (suc k) n)
+none-of : (t : ℕ → Bool) (k n : ℕ) → ((j : ℕ) → k ≤ j → j < k + n → t j ≡ false) → someFrom t k n ≡ false
+none-of t k zero h = refl
+none-of t k (suc n) h = rw (h k (omega arith) (omega arith)) (none-of t (suc k) n (λ j l m. h j (omega arith) (omega arith)))
+
+-- a byte is not touched where the four bytes of its word and of the half word after it are read as they were laid
+pub untouched-where : (ys xs : List ℕ) (i : ℕ) → ((b : ℕ) → 2 * halfOf i ≤ b → b < 2 * halfOf i + 4 → getD xs b 0 ≡ getD ys b 0) → touched ys xs i ≡ false
+unfolding touched
+untouched-where ys xs i same =
+    let own = 16 * halfOf i in
+    rw (
+      none-of (changed ys xs) own 16 (λ j l m. unchanged ys xs j (same (j / 8) (omega arith) (omega arith))),
+      unchanged ys xs (own + 16) (same ((own + 16) / 8) (omega arith) (omega arith)),
+    )
+    (unchanged ys xs (own + 28) (same ((own + 28) / 8) (omega arith) (omega arith)))
 
 pub untouched : (ys : List ℕ) (i : ℕ) → touched ys ys i ≡ false
-unfolding touched
-untouched ys i = rw (none-of (changed ys ys) (unchanged ys) (16 * halfOf i) 16, unchanged ys (16 * halfOf i + 16)) (unchanged ys (16 * halfOf i + 28))
+untouched ys i = untouched-where ys ys i (λ b l m. refl)
 
 -- ---- every half word of a permitted stream is 16 bits
 

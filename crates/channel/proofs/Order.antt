@@ -7,7 +7,7 @@ use Prim.Native.Nat.{ℕ, zero, suc, _+_, _*_, _-_, _/_, _%_, _<_, _≤_}
 use native.Mathlib.Nat.{not-suc-le-zero, le-of-suc-le-suc}
 use native.Mathlib.Omega.{arith}
 use borrow.Author.Tests.{ne-eqb, le-ltb, lt-ltb}
-use lib.Dec.{eqb}
+use lib.Dec.{T, eqb}
 use lib.ListN.{length, getD, take, drop, replicate}
 use Rattle.lists.proofs.Test.{and-false}
 use Rattle.annexg.specs.Read.{entryOf, wordOf}
@@ -16,7 +16,7 @@ use Rattle.layout.specs.Lengths.{frameBytes, frameBits}
 use Rattle.channel.specs.Bits.{syncHalf, zeroRunFits, blockZeroRunFits}
 use Rattle.layout.specs.Sectors.{frameCodes, codeOf}
 use Rattle.channel.specs.Block.{frames}
-use Rattle.channel.specs.Channel.{Item, sync, byte, entryFor, joinZeros, allowed}
+use Rattle.channel.specs.Channel.{Item, sync, byte, entryFor, nextFor, lastFor, joinZeros, allowed, permitted}
 use Rattle.channel.proofs.Places.{item-past, head-length, tail-length}
 
 -- ---- the order of the SYNC Codes
@@ -55,6 +55,13 @@ main-allowed s l b = refl
 
 pub sync-allowed : (s l n : ℕ) (c : Bool) → allowed s l (sync n) c ≡ true
 sync-allowed s l n c = refl
+
+-- so every block has a permitted stream: the main words, and Primary codes
+pub main-permitted : (s l : ℕ) (is : List Item) → T (permitted s l is (map (λ i. false) is))
+unfolding permitted
+main-permitted s l [] = tt
+main-permitted s l (sync n ∷ is) = main-permitted (nextFor s (sync n) false) (lastFor s (sync n) false) is
+main-permitted s l (byte b ∷ is) = main-permitted (nextFor s (byte b) false) (lastFor s (byte b) false) is
 
 -- bytes 0 to 87: the substitution word of the prescribed State, in every State
 pub low-allowed : (s l b : ℕ) → b < 88 → (allowed s l (byte b) true ≡ true) × (entryFor s b true ≡ entryOf 1 b (s - 1))

@@ -1,17 +1,18 @@
--- A block's stream wherever it stands in a run (LaidBlock), after any damage: the word of a byte that is not touched is read as that byte (reading-any,
--- reading-word), so that the byte is what it was (reading) and its word is known (reading-known).
+-- A block's stream wherever it stands in a run (LaidBlock; by itself laid-alone), after any damage: the word of a byte that is not touched is read as that byte
+-- (reading-any, reading-word), so that the byte is what it was (reading) and its word is known (reading-known).
 -- Assumes nothing.
-use mathlib.Core.Path.{_≡_, sym, ap, subst}
+use mathlib.Core.Path.{_≡_, refl, sym, ap, subst}
 use mathlib.Core.Bool.{Bool, false}
 use mathlib.Core.List.{List, [], _∷_, _++_}
 use Prim.Native.Nat.{ℕ, _*_, _<_}
+use native.Mathlib.Omega.{arith}
 use lib.Dec.{T}
 use lib.ListN.{length, getD}
 use Rattle.lists.specs.Bytes.{Bytes}
 use Rattle.annexg.specs.Read.{State}
 use Rattle.annexg.specs.declared.Reading.the-variants.{Byte}
 use Rattle.layout.specs.Lengths.{frameBytes, blockSize, blockFrames}
-use Rattle.channel.specs.Block.{frames, runItems, blockItems, readingAt, readingByte, readAt, isUnknown, unknownAt, touched}
+use Rattle.channel.specs.Block.{frames, runItems, blockItems, permittedChoices, permittedStream, readingAt, readingByte, readAt, isUnknown, unknownAt, touched}
 use Rattle.bytes.specs.Halves.{packed}
 use Rattle.channel.specs.Channel.{Item, sync, permitted, stream, allProper}
 use Rattle.channel.proofs.BitsTouched.{bits-touched, stream-bytes}
@@ -41,6 +42,19 @@ pub record LaidBlock (bs ys : List ℕ) : Type 0 where
   pub is-state : State state
   pub ok : T (permitted state last (blockItems bs) choices)
   pub is : ys ≡ packed (stream state (blockItems bs) choices)
+
+-- a block by itself, with the closing code after it
+pub laid-alone : (bs : List ℕ) (cs : List Bool) → length bs ≡ blockSize → Bytes bs → T (permittedChoices bs cs) → LaidBlock bs (permittedStream bs cs)
+laid-alone bs cs e h p = record {
+  state = 1;
+  last = 0;
+  choices = cs;
+  size = e;
+  bytes = h;
+  is-state = record { low = omega arith; high = omega arith };
+  ok = p;
+  is = refl;
+}
 
 closing-proper : T (allProper (sync 0 ∷ []))
 unfolding allProper

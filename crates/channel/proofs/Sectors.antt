@@ -96,7 +96,7 @@ module _ (xs : List ℕ) where
 
 module _ {bs ys : List ℕ} (m : LaidBlock bs ys) (xs : List ℕ) (hx : Bytes xs) where
   -- the touched bytes of a row are its unknown words and the others that are touched: e + f
-  row-touched : (r : ℕ) → r < rowCount → touchedKnownIn ys xs r + unknownIn xs r ≡ touchedIn ys xs r
+  pub row-touched : (r : ℕ) → r < rowCount → touchedKnownIn ys xs r + unknownIn xs r ≡ touchedIn ys xs r
   unfolding touchedKnownIn unknownIn touchedIn
   row-touched r hr = count-split (unknownAt xs) (touched ys xs) (r * rowSize) rowSize (λ i l. reading-known m xs hx i (omega arith))
 

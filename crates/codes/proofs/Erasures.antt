@@ -12,7 +12,8 @@ use lib.Dec.{T, eqb, leb, leb→le}
 use lib.ListN.{length, getD}
 use Rattle.lists.specs.Bytes.{Bytes}
 use Rattle.lists.specs.Count.{bit, countFrom, distance}
-use Rattle.lists.proofs.Count.{bit-le, count-same, count-none, distance-self, distance-differing}
+use Rattle.lists.proofs.Count.{bit-le, count-same, count-none}
+use Rattle.lists.proofs.Distance.{distance-self, distance-differing}
 use Rattle.lists.proofs.Test.{and-left, and-right, truth, truth-of}
 use Rattle.codes.specs.Word.{isCode}
 use Rattle.codes.specs.Nearest.{isNear, nearest, outcomeOf}

@@ -3,11 +3,11 @@
 use mathlib.Core.Path.{_≡_, refl, sym, ap, ap₂, subst, _∙_}
 use mathlib.Core.Bool.{Bool, true, false, false≢true, not, cond}
 use mathlib.Core.List.{List, [], _∷_, _++_, map}
-use mathlib.Core.Logic.{_⊎_, inl, inr}
+use mathlib.Core.Logic.{_⊎_, inl, inr, _≢_}
 use Prim.Native.Nat.{ℕ, zero, suc, _+_, _<_, _≤_}
 use native.Mathlib.Nat.{not-suc-le-zero, le-of-suc-le-suc, eq-or-lt-of-le}
 use native.Mathlib.Omega.{arith}
-use borrow.Author.Tests.{eq-eqb, ne-eqb, eqb-true, eqb-false, le-leb}
+use borrow.Author.Tests.{eq-eqb, ne-eqb, eqb-true, eqb-false, le-leb, leb-true, leb-false}
 use lib.Dec.{T, eqb, leb, leb→le}
 use lib.ListN.{length}
 use Rattle.lists.specs.Bytes.{Bytes}
@@ -56,6 +56,15 @@ distance-triangle r s u l m =
 pub minimum-distance :
     (p : ℕ) (r s : List ℕ) → Bytes r → Bytes s → length r ≡ length s → length r ≤ 255 → distance r s ≤ p → IsCode p r → IsCode p s → r ≡ s
 minimum-distance p r s h k l m d = unique p r s h k l m (omega (arith, distance-weight r s l))
+
+-- so two that are not equal differ in more than p
+pub code-words-apart :
+    (p : ℕ) (r s : List ℕ) → Bytes r → Bytes s → length r ≡ length s → length r ≤ 255 → IsCode p r → IsCode p s → r ≢ s → p < distance r s
+code-words-apart p r s h k l m c d n = go (leb (distance r s) p) refl
+  where
+    go : (b : Bool) → leb (distance r s) p ≡ b → p < distance r s
+    go true e = absurd (n (minimum-distance p r s h k l m (leb-true (distance r s) p e) c d))
+    go false e = leb-false (distance r s) p e
 
 -- ---- all words of n bytes
 

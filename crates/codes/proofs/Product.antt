@@ -1,19 +1,30 @@
--- A product code: where every row of an array is a code word with p roots, and every column but the last p is one with q roots, so are the last p columns.
+-- A product code: where every row of an array is a code word with p roots, and every column but the last p is one with q roots, so are the last p columns
+-- (product-code); two such arrays that differ at all differ in at least (p + 1)(q + 1) places (product-distance).
 -- Assumes nothing.
-use mathlib.Core.Path.{_≡_, refl, sym, ap, ap₂, _∙_}
+use mathlib.Core.Path.{_≡_, refl, sym, ap, ap₂, subst, _∙_}
+use mathlib.Core.Bool.{Bool, true, false, not}
 use mathlib.Core.List.{List, [], _∷_, _++_, map}
-use Prim.Native.Nat.{ℕ, zero, suc, _+_, _-_, _<_, _≤_, suc-le-suc}
+use mathlib.Core.Logic.{_≢_}
+use Prim.Native.Nat.{ℕ, zero, suc, _+_, _*_, _-_, _<_, _≤_, suc-le-suc}
+use native.Mathlib.Nat.{mul-le-mul-left}
 use native.Mathlib.Omega.{arith}
+use borrow.Author.Tests.{eqb-false}
+use lib.Dec.{eqb}
 use lib.ListN.{length, getD, replicate, length-replicate, length-map}
 use Rattle.lists.specs.Bytes.{Bytes}
+use Rattle.lists.specs.Count.{bit, sumFrom, countFrom, distance}
 use Rattle.lists.specs.Fill.{tabulateFrom, tabulate}
-use Rattle.lists.proofs.Bytes.{zeros-bytes}
+use Rattle.lists.proofs.Bytes.{zeros-bytes, getD-byte, tabulate-bytes}
+use Rattle.lists.proofs.Distance.{distance-tabulate, distance-some}
+use Rattle.lists.proofs.Fill.{length-tabulate, getD-tabulate}
+use Rattle.lists.proofs.Sum.{sum-order, sum-times, sum-some}
 use Rattle.field.specs.Field.{add, mul, pow}
 use Rattle.field.proofs.Field.{add-self, mul-zero, mul-comm}
 use Rattle.codes.specs.Word.{valueFrom, valueAt, syndrome}
 use Rattle.codes.specs.Parity.{addWords}
 use Rattle.codes.proofs.Words.{IsCode, ifNonzero, weight, syndrome-add, addWords-length, addWords-bytes, light}
 use Rattle.codes.proofs.Division.{valueFrom-append, valueFrom-scale, map-bytes, zeros-valueAt}
+use Rattle.codes.proofs.Nearest.{code-words-apart}
 use Rattle.codes.proofs.Shift.{add-at, map-at}
 
 -- ---- lists
@@ -99,18 +110,75 @@ module _ (x : ℕ) (rows : ℕ → List ℕ) (n : ℕ) (size : (i : ℕ) → len
       ∙ ap (λ (i : ℕ). add (mul (valueAt (tabulate f m) x) x) (f i)) (omega arith)
       ∙ sym (ap (valueFrom x 0) (snoc f 0 m) ∙ valueFrom-append x 0 (tabulate f m) (f (0 + m) ∷ []))
 
--- ---- the law
+-- ---- the laws
 
+-- an array of m rows of n bytes: every row is a code word with p roots, and every column but the last p one with q roots
+pub record ProductWord (p q m n : ℕ) (rows : ℕ → List ℕ) : Type 0 where
+  pub size : (i : ℕ) → length (rows i) ≡ n
+  pub bytes : (i : ℕ) → Bytes (rows i)
+  pub row-code : (i : ℕ) → IsCode p (rows i)
+  pub column-code : (j : ℕ) → j + p < n → IsCode q (tabulate (λ i. getD (rows i) j 0) m)
+
+-- every column is a code word with q roots
 pub product-code :
-    (p q m n : ℕ) (rows : ℕ → List ℕ) → n ≤ 255 → ((i : ℕ) → length (rows i) ≡ n) → ((i : ℕ) → Bytes (rows i)) → ((i : ℕ) → IsCode p (rows i))
-    → ((j : ℕ) → j + p < n → IsCode q (tabulate (λ i. getD (rows i) j 0) m)) → (j : ℕ) → j < n → IsCode q (tabulate (λ i. getD (rows i) j 0) m)
+    (p q m n : ℕ) (rows : ℕ → List ℕ) → n ≤ 255 → ProductWord p q m n rows → (j : ℕ) → j < n → IsCode q (tabulate (λ i. getD (rows i) j 0) m)
 unfolding syndrome
-product-code p q m n rows short size bytes code columns j h k l =
+product-code p q m n rows short w j h k l =
     let x : ℕ = pow 2 k in
     let c : List ℕ = combined x rows n m in
-    let len : length c ≡ n = combined-length x rows n size m in
-    let w : weight c ≤ length c - (n - p) =
-    weight-tail (n - p) c (λ i t. combined-at x rows n size i (omega arith) m ∙ columns i (omega arith) k l) in
-    let z : weight c ≡ 0 =
-    light p c (combined-bytes x rows n size bytes m) (omega arith) (omega arith) (combined-code x rows n size p code m) in
-    sym (combined-at x rows n size j h m) ∙ weight-none c z j
+    let len : length c ≡ n = combined-length x rows n (w .size) m in
+    let few : weight c ≤ length c - (n - p) =
+    weight-tail (n - p) c (λ i t. combined-at x rows n (w .size) i (omega arith) m ∙ w .column-code i (omega arith) k l) in
+    let none : weight c ≡ 0 =
+    light p c (combined-bytes x rows n (w .size) (w .bytes) m) (omega arith) (omega arith) (combined-code x rows n (w .size) p (w .row-code) m) in
+    sym (combined-at x rows n (w .size) j h m) ∙ weight-none c none j
+
+-- THE DISTANCE OF A PRODUCT CODE: two such arrays that differ at all differ in at least (p + 1)(q + 1) places. A column that differs does so in more than q rows,
+-- and each of these rows in more than p places
+module _ (p q m n : ℕ) (rows others : ℕ → List ℕ) (tall : m ≤ 255) (wide : n ≤ 255) (a : ProductWord p q m n rows) (b : ProductWord p q m n others) where
+  -- the cells of row i and column j differ
+  abbrev cellsDiffer : ℕ → ℕ → Bool
+  cellsDiffer j i = not (eqb (getD (rows i) j 0) (getD (others i) j 0))
+
+  abbrev rowDistance : ℕ → ℕ
+  rowDistance i = distance (rows i) (others i)
+
+  lengths : (i : ℕ) → length (rows i) ≡ length (others i)
+  lengths i = a .size i ∙ sym (b .size i)
+
+  rows-apart : (i j : ℕ) → getD (rows i) j 0 ≢ getD (others i) j 0 → p < rowDistance i
+  rows-apart i j d =
+      code-words-apart p (rows i) (others i) (a .bytes i) (b .bytes i) (lengths i) (omega (arith, a .size i)) (a .row-code i) (b .row-code i)
+      (λ e. d (ap (λ (r : List ℕ). getD r j 0) e))
+
+  column-bytes : (rs : ℕ → List ℕ) → ((i : ℕ) → Bytes (rs i)) → (j : ℕ) → Bytes (tabulate (λ i. getD (rs i) j 0) m)
+  column-bytes rs h j = tabulate-bytes (λ i. getD (rs i) j 0) 0 m (λ i. getD-byte (rs i) j (h i))
+
+  columns-apart : (i j : ℕ) → i < m → j < n → getD (rows i) j 0 ≢ getD (others i) j 0 → q < countFrom (cellsDiffer j) 0 m
+  columns-apart i j hi hj d =
+      let f : ℕ → ℕ = λ i. getD (rows i) j 0 in
+      let g : ℕ → ℕ = λ i. getD (others i) j 0 in
+      subst (λ (k : ℕ). q < k) (distance-tabulate f g 0 m)
+      (code-words-apart q (tabulate f m) (tabulate g m) (column-bytes rows (a .bytes) j) (column-bytes others (b .bytes) j)
+      (length-tabulate f m ∙ sym (length-tabulate g m)) (omega (arith, length-tabulate f m)) (product-code p q m n rows wide a j hj)
+      (product-code p q m n others wide b j hj)
+      (λ e. d (sym (getD-tabulate f m i hi) ∙ ap (λ (c : List ℕ). getD c i 0) e ∙ getD-tabulate g m i hi)))
+
+  row-weight : (j i : ℕ) → suc p * bit (cellsDiffer j i) ≤ rowDistance i
+  row-weight j i = go (eqb (getD (rows i) j 0) (getD (others i) j 0)) refl
+    where
+      go : (t : Bool) → eqb (getD (rows i) j 0) (getD (others i) j 0) ≡ t → suc p * bit (not t) ≤ rowDistance i
+      go true e = omega arith
+      go false e = omega (arith, rows-apart i j (eqb-false (getD (rows i) j 0) (getD (others i) j 0) e))
+
+  pub product-distance : 0 < sumFrom rowDistance 0 m → (p + 1) * (q + 1) ≤ sumFrom rowDistance 0 m
+  product-distance some =
+      let row = sum-some rowDistance 0 m some in
+      let i = 0 + row .0 in
+      let hi : i < m = omega (arith, row .1) in
+      let cell = distance-some (rows i) (others i) (lengths i) (row .2) in
+      let j = cell .0 in
+      let hj : j < n = omega (arith, cell .1, a .size i) in
+      let many = mul-le-mul-left (suc p) (columns-apart i j hi hj (cell .2)) in
+      let each = sum-order (λ i. suc p * bit (cellsDiffer j i)) rowDistance 0 m (λ i l. row-weight j i) in
+      omega (arith, sum-times (suc p) (λ i. bit (cellsDiffer j i)) 0 m)

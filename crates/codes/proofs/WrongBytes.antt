@@ -14,7 +14,8 @@ use lib.ListN.{length, getD}
 use Rattle.lists.specs.Bytes.{Bytes}
 use Rattle.lists.specs.Count.{distance}
 use Rattle.lists.proofs.Bytes.{getD-byte, set-bytes}
-use Rattle.lists.proofs.Count.{bit-le, distance-self}
+use Rattle.lists.proofs.Count.{bit-le}
+use Rattle.lists.proofs.Distance.{distance-self}
 use Rattle.field.specs.Field.{add, mul, pow}
 use Rattle.field.proofs.Field.{add-assoc, add-comm, add-left-comm, add-self, add-zero, zero-add, add-lt, add-mul, zero-mul}
 use Rattle.codes.specs.Word.{syndrome}

@@ -12,7 +12,7 @@ use lib.Dec.{eqb}
 use lib.ListN.{length, getD}
 use lib.Seq.{ext-getD}
 use Rattle.lists.specs.Count.{distance}
-use Rattle.lists.proofs.Count.{distance-self}
+use Rattle.lists.proofs.Distance.{distance-self}
 use lib.Bits.{bitAnd}
 use Rattle.dataframe.specs.Checks.{infoOf, numberOf, agree, iedPasses, idPasses, edcPasses, frameRefusal}
 

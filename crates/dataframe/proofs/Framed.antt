@@ -5,7 +5,7 @@ use mathlib.Core.List.{List, [], _∷_, _++_, append-assoc}
 use Prim.Native.Nat.{ℕ, _+_, _/_, _%_, _<_}
 use native.Mathlib.Omega.{arith}
 use lib.ListN.{length, getD, take, drop, length-append, List·getD-append}
-use lib.Seq.{take-all, take-at, drop-at, sets, length-sets}
+use lib.Seq.{take-all, take-at, drop-at, getD-take, getD-drop, sets, length-sets}
 use Rattle.lists.specs.Bytes.{Bytes}
 use Rattle.lists.proofs.Bytes.{append-bytes, zeros-bytes}
 use Rattle.bytes.proofs.Copies.{take-sets}
@@ -92,6 +92,11 @@ module _ (d : List ℕ) (info n : ℕ) (len : length d ≡ frameMainSize) where
       ap (λ (x : List ℕ). take frameMainSize (drop headSize x)) (append-assoc (headOf info n) d (edcOf (headOf info n ++ d)))
       ∙ ap (take frameMainSize) (drop-at (headOf info n) (d ++ edcOf (headOf info n ++ d)) headSize (head-length info n))
       ∙ take-at d (edcOf (headOf info n ++ d)) frameMainSize len
+
+  pub data-at : (r : ℕ) → r < frameMainSize → getD (dataFrame d info n) (headSize + r) 0 ≡ getD d r 0
+  data-at r h =
+      sym (getD-drop headSize (dataFrame d info n) r 0) ∙ sym (getD-take frameMainSize (drop headSize (dataFrame d info n)) r 0 h)
+      ∙ ap (λ (x : List ℕ). getD x r 0) data-main
 
   -- what `data_frame` builds: the head, the main data and EDC put into a frame one after the other
   pub data-built :

@@ -1,6 +1,6 @@
 -- The frame of a sector: it holds its number, its Sector Information and its main data, and it passes every check.
 -- Assumes nothing.
-use mathlib.Core.Path.{_≡_, refl, sym, ap, _∙_}
+use mathlib.Core.Path.{_≡_, refl, sym, ap, ap₂, _∙_}
 use mathlib.Core.Bool.{Bool, true, false, _||_, not}
 use mathlib.Core.List.{List, _++_}
 use Prim.Native.Nat.{ℕ, _+_, _-_, _/_, _%_, _<_, _≤_}
@@ -13,11 +13,12 @@ use Rattle.lists.specs.Bytes.{Bytes}
 use Rattle.lists.proofs.Fill.{length-tabulate, getD-tabulate}
 use Rattle.layout.specs.Lengths.{headSize, frameMainSize, edcPlace, frameSize}
 use Rattle.edc.specs.Edc.{edcOf}
-use Rattle.scrambling.specs.Scrambling.{scrambledAt, scrambled}
-use Rattle.scrambling.proofs.Scrambled.{scrambled-head, scrambled-end, scrambled-bytes, scrambled-twice}
+use Rattle.field.specs.Field.{add}
+use Rattle.scrambling.specs.Scrambling.{presetOf, scramblingByte, scrambledAt, scrambled}
+use Rattle.scrambling.proofs.Scrambled.{scrambled-head, scrambled-main, scrambled-end, scrambled-bytes, scrambled-twice}
 use Rattle.dataframe.specs.Frame.{isPermitted, idOf, iedOf, cprMai, headOf, dataFrame}
 use Rattle.dataframe.specs.Checks.{infoOf, numberOf, unscrambled, mainOf, iedPasses, idPasses, edcPasses, frameRefusal}
-use Rattle.dataframe.proofs.Framed.{id-length, ied-length, data-length, data-bytes, data-head, data-front, data-edc, data-main}
+use Rattle.dataframe.proofs.Framed.{id-length, ied-length, data-length, data-bytes, data-head, data-front, data-edc, data-main, data-at}
 use Rattle.dataframe.proofs.Checked.{agree-same, refusal-none}
 
 or-true : (b : Bool) → (b || true) ≡ true
@@ -34,10 +35,17 @@ module _ (d : List ℕ) (info n : ℕ) (len : length d ≡ frameMainSize) where
   pub frame-bytes : Bytes d → info < 256 → Bytes frame
   frame-bytes hd hi = scrambled-bytes n (dataFrame d info n) (data-bytes d info n len hd hi)
 
-  -- scrambling leaves the first twelve bytes and EDC
-  frame-head : (i : ℕ) → i < headSize → getD frame i 0 ≡ getD (headOf info n) i 0
+  -- scrambling leaves the first twelve bytes and EDC,
+  pub frame-head : (i : ℕ) → i < headSize → getD frame i 0 ≡ getD (headOf info n) i 0
   frame-head i l =
       getD-tabulate (scrambledAt n (dataFrame d info n)) frameSize i (omega arith) ∙ scrambled-head n (dataFrame d info n) i l ∙ data-head d info n len i l
+
+  -- and adds its bytes to the main data
+  pub frame-data : (r : ℕ) → r < frameMainSize → getD frame (headSize + r) 0 ≡ add (getD d r 0) (scramblingByte (presetOf n) r)
+  frame-data r l =
+      getD-tabulate (scrambledAt n (dataFrame d info n)) frameSize (headSize + r) (omega arith)
+      ∙ scrambled-main n (dataFrame d info n) (headSize + r) (omega arith) (omega arith)
+      ∙ ap₂ (λ (x y : ℕ). add x (scramblingByte (presetOf n) y)) (data-at d info n len r l) (omega arith)
 
   frame-edc : drop edcPlace frame ≡ edcOf (headOf info n ++ d)
   frame-edc = ext-getD 0 (drop edcPlace frame) (drop edcPlace (dataFrame d info n)) (size ∙ sym size₂) (λ i l. each i (rw size at l)) ∙ data-edc d info n len

@@ -12,7 +12,7 @@ use Rattle.lists.specs.Bytes.{Bytes}
 use Rattle.lists.proofs.Test.{truth}
 use Rattle.lists.proofs.Fill.{length-tabulate, getD-tabulate, is-tabulate}
 use Rattle.lists.proofs.Bytes.{bytes-of, getD-byte, append-bytes, take-bytes, drop-bytes, tabulate-bytes}
-use Rattle.layout.specs.Lengths.{frameMainSize, frameSize, sectorCount, mainSize, frameRows, dataRows, rowCount, columnCount, rowSize, outerSize, innerSize, blockSize}
+use Rattle.layout.specs.Lengths.{headSize, frameMainSize, frameSize, sectorCount, mainSize, frameRows, dataRows, rowCount, columnCount, rowSize, outerSize, innerSize, blockSize}
 use Rattle.layout.specs.Rows.{recordingRow, originalRow, rowOf, columnOf, frameOf}
 use Rattle.layout.proofs.Order.{recording-lt, original-recording}
 use Rattle.layout.proofs.Places.{row-length, row-byte, column-byte, frame-byte, column-length as column-of-length, frame-length as frame-of-length}
@@ -20,7 +20,10 @@ use Rattle.codes.specs.Word.{isCode}
 use Rattle.codes.specs.Parity.{parity}
 use Rattle.codes.proofs.Words.{IsCode, test-of-code}
 use Rattle.codes.proofs.Division.{ten-roots, sixteen-roots, parity-bytes, parity-code}
-use Rattle.codes.proofs.Product.{product-code}
+use Rattle.codes.proofs.Product.{ProductWord, product-code}
+use Rattle.field.specs.Field.{add}
+use Rattle.scrambling.specs.Scrambling.{presetOf, scramblingByte, scrambled}
+use Rattle.dataframe.specs.Frame.{headOf, dataFrame}
 use Rattle.dataframe.specs.Checks.{infoOf, numberOf, mainOf, frameRefusal, mainOfBlock}
 use Rattle.dataframe.proofs.Laws as one
 use Rattle.eccblock.specs.Block.{mainPart, frame, dataByte, column, codeColumn, row, codeRow, blockByte, block}
@@ -28,6 +31,15 @@ use Rattle.eccblock.specs.Encode.{Accepted}
 use Rattle.eccblock.specs.declared.Previous.{Previous}
 use Rattle.eccblock.proofs.Refusals.{Facts, accepted-facts}
 use Rattle.eccblock.proofs.Cells.{column-length, column-at, code-column-length, code-column-data, code-row-length, code-row-data}
+
+-- byte r of frame k's main data
+pub part-byte : (main : List ℕ) (k r : ℕ) → r < frameMainSize → getD (mainPart main k) r 0 ≡ getD main (frameMainSize * k + r) 0
+part-byte main k r h = getD-take frameMainSize (drop (frameMainSize * k) main) r 0 h ∙ getD-drop (frameMainSize * k) main r 0
+
+-- a frame hangs on its own main data alone
+pub frame-by-part : (main other : List ℕ) (first info k : ℕ) → mainPart main k ≡ mainPart other k → frame main first info k ≡ frame other first info k
+unfolding frame
+frame-by-part main other first info k e = ap (λ (d : List ℕ). scrambled (first + k) (dataFrame d info (first + k))) e
 
 module _ {previous : Previous} (main : List ℕ) (first info : ℕ) (ok : Accepted previous main first info) where
   facts : Facts previous main first info
@@ -38,7 +50,7 @@ module _ {previous : Previous} (main : List ℕ) (first info : ℕ) (ok : Accept
 
   -- ---- the frames
 
-  part-length : (k : ℕ) → k < sectorCount → length (mainPart main k) ≡ frameMainSize
+  pub part-length : (k : ℕ) → k < sectorCount → length (mainPart main k) ≡ frameMainSize
   part-length k h = length-take-le frameMainSize (drop (frameMainSize * k) main) (rw length-drop (omega (arith, facts .whole)))
 
   part-bytes : (k : ℕ) → Bytes (mainPart main k)
@@ -54,6 +66,18 @@ module _ {previous : Previous} (main : List ℕ) (first info : ℕ) (ok : Accept
   frame-bytes : (k : ℕ) → k < sectorCount → Bytes (frame main first info k)
   unfolding frame
   frame-bytes k h = one.frame-bytes (mainPart main k) info (first + k) (part-length k h) (part-bytes k) (ok .byte)
+
+  -- its head, and its main data as they are scrambled
+  pub frame-head : (k q : ℕ) → k < sectorCount → q < headSize → getD (frame main first info k) q 0 ≡ getD (headOf info (first + k)) q 0
+  unfolding frame
+  frame-head k q h l = one.frame-head (mainPart main k) info (first + k) (part-length k h) q l
+
+  pub frame-data : (k r : ℕ) → k < sectorCount → r < frameMainSize
+      → getD (frame main first info k) (headSize + r) 0 ≡ add (getD main (frameMainSize * k + r) 0) (scramblingByte (presetOf (first + k)) r)
+  unfolding frame
+  frame-data k r h l =
+      one.frame-data (mainPart main k) info (first + k) (part-length k h) r l
+      ∙ ap (λ (x : ℕ). add x (scramblingByte (presetOf (first + k)) r)) (part-byte main k r l)
 
   -- ---- the columns
 
@@ -160,16 +184,23 @@ module _ {previous : Previous} (main : List ℕ) (first info : ℕ) (ok : Accept
       truth (isCode innerSize (rowOf made q))
       (test-of-code innerSize (rowOf made q) (subst (IsCode innerSize) (sym (block-row q h)) (code-row-code (originalRow q))))
 
-  -- every column of a made block, the columns of inner parity too, is a code word of the outer code: the two codes make a product code
+  -- its rows and columns are an array of the product code
+  pub block-product : ProductWord innerSize outerSize rowCount rowSize (codeRow main first info)
+  block-product = record {
+    size = code-row-length main first info;
+    bytes = code-row-bytes;
+    row-code = code-row-code;
+    column-code = λ j l. subst (IsCode outerSize) (array-column j (omega arith)) (code-column-code j);
+  }
+
+  -- every column of a made block, the columns of inner parity too, is a code word of the outer code
   pub block-column-code : (j : ℕ) → j < rowSize → isCode outerSize (columnOf made j) ≡ true
   block-column-code j h =
       truth (isCode outerSize (columnOf made j))
       (test-of-code outerSize (columnOf made j) (subst (IsCode outerSize) (sym (block-any-column j h)) code))
     where
       code : IsCode outerSize (tabulate (λ i. getD (codeRow main first info i) j 0) rowCount)
-      code =
-          product-code innerSize outerSize rowCount rowSize (codeRow main first info) (omega arith) (code-row-length main first info) code-row-bytes code-row-code
-          (λ i l. subst (IsCode outerSize) (array-column i (omega arith)) (code-column-code i)) j h
+      code = product-code innerSize outerSize rowCount rowSize (codeRow main first info) (omega arith) block-product j h
 
   -- frame k of a made block has its number and the Sector Information, and passes every check
   pub frame-number : (k : ℕ) → k < sectorCount → numberOf (frame main first info k) ≡ first + k
@@ -204,9 +235,7 @@ module _ {previous : Previous} (main : List ℕ) (first info : ℕ) (ok : Accept
           let hk : k < sectorCount = omega arith in
           let hr : r < frameMainSize = omega arith in
           let e : p ≡ frameMainSize * k + r = omega arith in
-          ap (λ (x : ℕ). getD main x 0) e ∙ sym (getD-drop (frameMainSize * k) main r 0)
-          ∙ sym (getD-take frameMainSize (drop (frameMainSize * k) main) r 0 hr)
-          ∙ ap (λ (x : List ℕ). getD x r 0) (sym (ap mainOf (same k hk) ∙ frame-main k hk))
+          ap (λ (x : ℕ). getD main x 0) e ∙ sym (part-byte main k r hr) ∙ ap (λ (x : List ℕ). getD x r 0) (sym (ap mainOf (same k hk) ∙ frame-main k hk))
 
   -- unscrambling a made block gives the main data back
   pub block-main : mainOfBlock made ≡ main

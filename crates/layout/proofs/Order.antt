@@ -6,8 +6,8 @@ use Prim.Native.Nat.{ℕ, _+_, _*_, _-_, _/_, _%_, _<_, _≤_}
 use native.Mathlib.Omega.{arith}
 use borrow.Author.Tests.{ltb-true, ltb-false, leb-true, leb-false, eqb-true, eq-eqb, lt-ltb, le-ltb, le-leb, lt-leb}
 use lib.Dec.{eqb, leb, ltb}
-use Rattle.lists.specs.Count.{countFrom}
-use Rattle.lists.proofs.Count.{count-append, count-same, count-weave}
+use Rattle.lists.specs.Count.{bit, sumFrom, countFrom}
+use Rattle.lists.proofs.Sum.{sum-append, sum-same, sum-weave}
 use Rattle.lists.proofs.Test.{last-unique}
 use Rattle.layout.specs.Lengths.{rowCount, dataRows}
 use Rattle.layout.specs.Rows.{recordingRow, originalRow}
@@ -89,11 +89,18 @@ recording-original q h = go (ltb (q % 13) 12) refl
         let o = original-high q h l in
         (omega arith, ap recordingRow o ∙ recording-high (dataRows + q / 13) (omega arith) ∙ omega arith)
 
--- as many of the rows pass a test in one order as in the other
-pub count-recording : (t : ℕ → Bool) (m : ℕ) → m ≡ 16 → countFrom (λ i. t (recordingRow i)) 0 (m * 12 + m) ≡ countFrom t 0 (m * 13)
-count-recording t m e =
-    count-append (λ i. t (recordingRow i)) 0 (m * 12) m
+-- a sum over the rows is the same in one order as in the other, where m is 16,
+sum-by-frames : (f : ℕ → ℕ) (m : ℕ) → m ≡ 16 → sumFrom (λ i. f (recordingRow i)) 0 (m * 12 + m) ≡ sumFrom f 0 (m * 13)
+sum-by-frames f m e =
+    sum-append (λ i. f (recordingRow i)) 0 (m * 12) m
     ∙ ap₂ (λ (x y : ℕ). x + y)
-    (count-same (λ i. t (recordingRow i)) (λ i. t (i + i / 12)) 0 0 (m * 12) (λ i l. ap t (recording-low (0 + i) (omega arith))))
-    (count-same (λ i. t (recordingRow i)) (λ k. t (k * 13 + 12)) (0 + m * 12) 0 m (λ i l. ap t (recording-high (0 + m * 12 + i) (omega arith) ∙ omega arith)))
-    ∙ count-weave t (λ i. t (i + i / 12)) (λ k. t (k * 13 + 12)) 12 (λ k i l. ap t (omega arith)) (λ k. refl) m
+    (sum-same (λ i. f (recordingRow i)) (λ i. f (i + i / 12)) 0 0 (m * 12) (λ i l. ap f (recording-low (0 + i) (omega arith))))
+    (sum-same (λ i. f (recordingRow i)) (λ k. f (k * 13 + 12)) (0 + m * 12) 0 m (λ i l. ap f (recording-high (0 + m * 12 + i) (omega arith) ∙ omega arith)))
+    ∙ sum-weave f (λ i. f (i + i / 12)) (λ k. f (k * 13 + 12)) 12 (λ k i l. ap f (omega arith)) (λ k. refl) m
+
+pub sum-recording : (f : ℕ → ℕ) → sumFrom (λ i. f (recordingRow i)) 0 rowCount ≡ sumFrom f 0 rowCount
+sum-recording f = sum-by-frames f 16 refl
+
+-- and so as many of the rows pass a test
+pub count-recording : (t : ℕ → Bool) → countFrom (λ i. t (recordingRow i)) 0 rowCount ≡ countFrom t 0 rowCount
+count-recording t = sum-recording (λ q. bit (t q))

@@ -27,7 +27,7 @@ use Rattle.layout.proofs.Order.{recording-lt, recording-original, count-recordi
 use Rattle.layout.proofs.Places.{column-length, column-byte, frame-length, frame-byte}
 use Rattle.eccblock.proofs.Cells.{code-column-length, code-row-length}
 use Rattle.eccblock.proofs.Laws.{code-column-bytes, code-column-code, code-row-bytes, code-row-code, block-row, block-column, block-frame, frame-number, frame-info, frame-passes, frames-main}
-use Rattle.lists.proofs.Count.{distance-count}
+use Rattle.lists.proofs.Distance.{distance-count}
 use Rattle.repairer.specs.Repair.{rowsRepaired, columnsRepaired, repaired, talliesOf}
 use Rattle.repairer.specs.Answer.{frameFault, judged, lengthsFit, marksFit, repairAnswer, handsOut, mainAfter}
 use Rattle.repairer.specs.declared.Repaired.{Repaired}
@@ -112,7 +112,7 @@ module _ {previous : Previous} (main : List ℕ) (first info : ℕ) (ok : Accept
       let n = column-length (rowsRepaired xs ms) j in
       let m = column-length made j in
       subst (λ (c : ℕ). distance (columnOf (rowsRepaired xs ms) j) (columnOf made j) ≤ c)
-      (ap (countFrom (λ i. far (recordingRow i)) 0) n ∙ count-recording far 16 refl)
+      (ap (countFrom (λ i. far (recordingRow i)) 0) n ∙ count-recording far)
       (distance-count (columnOf (rowsRepaired xs ms) j) (columnOf made j) (λ i. far (recordingRow i)) (n ∙ sym m)
       (λ i l f. column-alike j i hj (omega (arith, n)) f))
 

@@ -5,6 +5,7 @@ pub mod Runs
 pub mod Demand
 pub mod Undamaged
 pub mod Pooled
+pub mod NineRows
 pub mod FormatBack
 pub mod RunChecked
 pub mod Trials

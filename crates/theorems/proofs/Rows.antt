@@ -20,9 +20,9 @@ use Rattle.layout.proofs.Places.{row-byte}
 use Rattle.eccblock.specs.Block.{block}
 use Rattle.eccblock.specs.Encode.{Accepted}
 use Rattle.eccblock.specs.declared.Previous.{Previous}
-use Rattle.channel.specs.Block.{readAt, readBlock, unknownAt, erasuresOfBlock, touched, unknownIn, touchedKnownIn, overloaded, overloadedRows}
+use Rattle.channel.specs.Block.{readAt, readBlock, unknownAt, erasuresOfBlock, touched, touchedIn, unknownIn, touchedKnownIn, overloaded, overloadedRows}
 use Rattle.channel.proofs.Rows.{LaidBlock, reading, reading-known}
-use Rattle.channel.proofs.Sectors.{read-row, erasures-row}
+use Rattle.channel.proofs.Sectors.{read-row, erasures-row, row-touched}
 use Rattle.theorems.proofs.ReadBytes.{read-block-length, read-block-bytes}
 use Rattle.theorems.proofs.Chain.{farRow, farRows, row-back}
 
@@ -86,6 +86,11 @@ module _ {bs ys : List ℕ} (laid : LaidBlock bs ys) (xs : List ℕ) (hx : Bytes
   row-load :
       2 * errorCount marks read (rowOf bs r) + erasureCount marks rowSize ≤ 2 * touchedKnownIn ys xs r + unknownIn xs r
   row-load = omega (arith, errors≤touched, erasures≡unknown)
+
+  -- so a row with at most five touched bytes is not far
+  pub light-near : touchedIn ys xs r ≤ 5 → farRow (readBlock xs) (erasuresOfBlock xs) bs r ≡ false
+  light-near few =
+      le-ltb 10 (2 * errorCount marks read (rowOf bs r) + erasureCount marks rowSize) (omega (arith, row-load, row-touched laid xs hx r hr, few))
 
 -- at most as many rows are far as are overloaded
 pub far-overloaded : {bs ys : List ℕ} → LaidBlock bs ys → (xs : List ℕ) → Bytes xs → farRows (readBlock xs) (erasuresOfBlock xs) bs ≤ overloadedRows ys xs

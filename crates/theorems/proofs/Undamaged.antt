@@ -42,7 +42,7 @@ use Rattle.channel.specs.Block.{permittedRun, runStream, permittedChoices, perm
 use Rattle.bytes.specs.Halves.{halfAt}
 use Rattle.channel.proofs.Sectors.{part-half, half-of, half-small, erasures-block, reads-whole}
 use Rattle.layout.proofs.Places.{row-byte}
-use Rattle.channel.proofs.Rows.{LaidBlock}
+use Rattle.channel.proofs.Rows.{LaidBlock, laid-alone}
 use Rattle.channel.proofs.Runs.{laid-length}
 use Rattle.channel.proofs.Undisturbed.{SyncAt, word-known, sync-known}
 use Rattle.reader.specs.Sector.{lostSync, unknownTally, syncTally}
@@ -246,14 +246,4 @@ pub block-undamaged :
     {previous : Previous} (main : List ℕ) (first info : ℕ) (ok : Accepted previous main first info) (cs : List Bool) → T (permittedChoices (block main first info) cs)
     → Undamaged main first (permittedStream (block main first info) cs)
 block-undamaged main first info ok cs p =
-    undamaged main first info ok
-    (record {
-      state = 1;
-      last = 0;
-      choices = cs;
-      size = block-length main first info ok;
-      bytes = block-bytes main first info ok;
-      is-state = record { low = omega arith; high = omega arith };
-      ok = p;
-      is = refl;
-    })
+    undamaged main first info ok (laid-alone (block main first info) cs (block-length main first info ok) (block-bytes main first info ok) p)

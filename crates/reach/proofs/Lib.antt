@@ -1,0 +1,4 @@
+pub mod Rows
+pub mod OneByte
+pub mod Apart
+pub mod Reach
