@@ -1,4 +1,4 @@
--- Different inputs make different blocks (same-block), and two blocks that differ at all differ in at least 187 bytes (blocks-apart): 10 roots of a row and 16 of a
+-- Different inputs make different blocks (block-injective), and two blocks that differ at all differ in at least 187 bytes (blocks-apart): 10 roots of a row and 16 of a
 -- column make it 11 times 17.
 -- Assumes nothing.
 use mathlib.Core.Path.{_≡_, sym, ap, ap₂, subst, _∙_}
@@ -34,8 +34,8 @@ inputOf main first info = record { main = main; first = first; info = info }
 
 module _ {previous before : Previous} (a b : BlockInput) (ok : AcceptedInput previous a) (also : AcceptedInput before b) where
   -- equal blocks are made of equal inputs
-  pub same-block : madeBlock a ≡ madeBlock b → a ≡ b
-  same-block e =
+  pub block-injective : madeBlock a ≡ madeBlock b → a ≡ b
+  block-injective e =
       let main : a .main ≡ b .main = sym (main-of a ok) ∙ ap mainOfBlock e ∙ main-of b also in
       let first : a .first ≡ b .first = sym (first-of a ok) ∙ ap (λ (xs : List ℕ). numberOf (frameOf xs 0)) e ∙ first-of b also in
       let info : a .info ≡ b .info = sym (info-of a ok) ∙ ap (λ (xs : List ℕ). infoOf (frameOf xs 0)) e ∙ info-of b also in
@@ -46,7 +46,7 @@ module _ {previous before : Previous} (a b : BlockInput) (ok : AcceptedInput pre
     where
       sure : distance (madeBlock a) (madeBlock b) ≢ 0
       sure z =
-          n (same-block (distance-none (madeBlock a) (madeBlock b)
+          n (block-injective (distance-none (madeBlock a) (madeBlock b)
           (block-length (a .main) (a .first) (a .info) ok ∙ sym (block-length (b .main) (b .first) (b .info) also)) z))
 
       go : (d : ℕ) → d ≢ 0 → 0 < d

@@ -22,7 +22,7 @@ use Rattle.reach.proofs.Apart.{blocks-apart}
 use Rattle.reach.proofs.OneByte.{one-byte-reaches}
 
 pub record Reach : Type 0 where
-  -- whatever blocks stood before them, and first numbers followed on
+  -- whatever block came before each of the two
   pub one-byte : {previous before : Previous} (main other : List ℕ) (first info : ℕ) → Accepted previous main first info → Accepted before other first info
       → distance main other ≡ 1 → distance (block main first info) (block other first info) ≤ 265
   pub apart : {previous before : Previous} (a b : BlockInput) → Accepted previous (a .main) (a .first) (a .info) → Accepted before (b .main) (b .first) (b .info)
