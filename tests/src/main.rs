@@ -60,7 +60,7 @@ fn round(report: &mut Report, seed: u64) {
     writer_test::refusals(report, &mut random, &tables, 20_000);
     session_test::random_sessions(report, &mut random, &tables, 10_000);
     readers_test::all(report, &mut random, &tables, &reader);
-    nine_rows_test::all(report, &mut random, &tables, &reader, 20);
+    nine_rows_test::all(report, &mut random, &tables, &reader, 60);
     erasures_test::all(report, &mut random, &tables, &reader);
     runs_test::all(report, &mut random, &tables, &reader);
     pool_test::all(report, &mut random);

@@ -267,7 +267,7 @@ pub fn all(report: &mut Report, random: &mut Random) {
     vectors(report);
     is_drawn(report);
     each_byte_of_a_frame(report, random);
-    any_byte(report, random, 100);
+    any_byte(report, random, 500);
     least(report, random);
-    any_inputs(report, random, 120);
+    any_inputs(report, random, 600);
 }
