@@ -1,5 +1,7 @@
 // Annex G and table 4 of ECMA-268: the tables of Code Words, the SYNC Codes, and the reading of a Code Word.
 // Tables are handed out by value once and then lent: a constant that is indexed in a loop would be rebuilt at each turn.
+#![tactic(auto)]
+
 mod tables;
 
 ghost use Rattle.std.specs.Prelude.{◌≡◌, ◌*◌, ◌-◌, ◌/◌, ◌<◌, ◌≤◌, length};

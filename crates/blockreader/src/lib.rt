@@ -1,5 +1,7 @@
 // The reader of a whole block (document 01, 'Reading a word, and the repair'): sixteen calls of the sector reader, then one of the repairer with their
 // marks (document 02, request 2).
+#![tactic(auto)]
+
 ghost use Rattle.std.specs.Prelude.{◌≡◌, ◌+◌, ◌<◌, length};
 ghost use Rattle.channel.specs.Block.{read_block, erasures_of_block};
 ghost use Rattle.reader.specs.Sector.{unknown_tally, sync_tally};

@@ -1,5 +1,7 @@
 // The capture reader (document 02, request 6): the Sync Frames of a stream without a known start, and the stretches of it that are in no frame. The core works on a
 // slice and a bit; `CaptureReader`, which holds both, stands over it (reader.rt), and `read_capture` over that.
+#![tactic(auto)]
+
 mod passes;
 mod reader;
 

@@ -1,5 +1,7 @@
 // Reed-Solomon codes over GF(256), the definitions and their laws: parity, the minimum distance, the nearest code word, and what the decoder's steps compute.
 // The code is in the crates above, `lightrepair` and `reedsolomon`.
+#![tactic(auto)]
+
 
 // What becomes of a word: it is a code word; it is made one; there is none near enough (document 01: unchanged, changed, past help).
 #[derive(Drop)]

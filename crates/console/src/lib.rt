@@ -1,5 +1,7 @@
 // The console keeps one record for a whole run of blocks, from the first sector to the closing code: thin calls over the record, which is lent by `&mut`. Each hands
 // the record to the writer, or to the formatter for a whole block, and stores the one that comes back.
+#![tactic(auto)]
+
 ghost use Rattle.std.specs.Prelude.{◌≡◌, length};
 ghost use Rattle.writer.specs.Records.{start};
 ghost use Rattle.writer.specs.Answers.{answer_number, sector_refusal, trial_next, take_refusal, take_next, take_out};

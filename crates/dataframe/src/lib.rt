@@ -1,5 +1,7 @@
 // Data Frames (ECMA-268, clause 16), and the checks of a frame that was read, still scrambled. Frames go in and come back by value; the table of
 // logarithms is lent, so that no frame makes it anew. The table of EDC is copied once a frame, which takes a small part of the time of the division.
+#![tactic(auto)]
+
 ghost use Rattle.std.specs.Prelude.{◌≡◌, ◌||◌, not, ◌%◌, eqb, length};
 ghost use Rattle.field.specs.Inner.{LogTable};
 ghost use Rattle.layout.specs.Lengths.{frame_size, frame_main_size};

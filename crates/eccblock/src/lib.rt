@@ -1,5 +1,7 @@
 // The block maker (ECMA-268, clauses 16 to 19; document 01, 'The block'): 32,768 main data bytes to an ECC Block of 37,856 bytes in recording order. The tables are
 // made once a block and lent from there on.
+#![tactic(auto)]
+
 ghost use Rattle.std.specs.Prelude.{cond, ◌≡◌, List, ℕ, ◌<◌, ◌≤◌, length};
 ghost use Rattle.octets.specs.Inner.{Stored};
 ghost use Rattle.layout.specs.Lengths.{frame_size, sector_count, main_size, row_count, column_count, outer_size, inner_size, block_size, last_first};

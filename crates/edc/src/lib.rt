@@ -1,4 +1,6 @@
 // EDC (ECMA-268, 16.4), four bytes at a time. The table of what each byte leaves is lent, so that no step makes it anew.
+#![tactic(auto)]
+
 ghost use Rattle.std.specs.Prelude.{[], ◌∷◌, ◌≡◌, ◌%◌, ◌<◌, length};
 ghost use Rattle.field.specs.Field.{add};
 ghost use Rattle.edc.specs.Edc.{edc_from, four_bytes, edc_of};

@@ -1,6 +1,8 @@
 // The C boundary, for C (include/), Rust (rust/), tests and benchmarks: numbers, bools, slices and the writer's record. A `&[u8]` passes as a pointer and a
 // length, a `&mut Record` as a pointer. No function has a `requires`: a buffer of another length than stated gets refusal 1 (document 01) and everything is left as
 // it was.
+#![tactic(auto)]
+
 mod blocks;
 mod captures;
 mod codewords;

@@ -1,4 +1,6 @@
 // GF(256): product, quotient, inverse, logarithm and power (ECMA-268, 16.2 and clause 18; document 01, 'The block'). The table of logarithms is lent, so that no call makes it anew.
+#![tactic(auto)]
+
 ghost use Rattle.std.specs.Prelude.{◌≡◌, ◌<◌};
 ghost use Rattle.field.specs.Field.{mul, pow, inverse};
 ghost use Rattle.field.specs.Inner.{LogTable};

@@ -1,5 +1,7 @@
 // The formatter: main data to a stream, by the block maker and then the writer. A whole block of a run at a time (`write_block`), or the run of one block with its
 // closing code (`format_block`).
+#![tactic(auto)]
+
 ghost use Rattle.std.specs.Prelude.{◌≡◌, length};
 ghost use Rattle.eccblock.specs.Encode.{encode_number, encoded_buffer};
 ghost use Rattle.eccblock.specs.declared.Previous.TheVariants.{None};

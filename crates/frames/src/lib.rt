@@ -1,4 +1,6 @@
 // A Sync Frame in two streams, of which the lower is shown (clause 22).
+#![tactic(auto)]
+
 mod end;
 mod step;
 

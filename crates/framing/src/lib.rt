@@ -1,5 +1,7 @@
 // Sync Frames in a capture whose start is not known (document 02, request 6): whether one starts at a bit, where the look finds the next, and its bytes. A frame and a
 // SYNC Code are whole bytes long, so that all that is looked at for a bit has its offset in a byte.
+#![tactic(auto)]
+
 ghost use Rattle.std.specs.Prelude.{◌≡◌, ◌+◌, ◌*◌, ◌<◌, ◌≤◌, ◌^◌, length};
 ghost use Rattle.annexg.specs.Read.{table_of};
 ghost use Rattle.annexg.specs.Sync.{is_sync, sync_table};

@@ -1,4 +1,6 @@
 // A SYNC Code or a Code Word at the end of a stream: in the stream's buffer, and in its running record.
+#![tactic(auto)]
+
 ghost use Rattle.std.specs.Prelude.{◌≡◌, ◌≤◌, length};
 ghost use Rattle.annexg.specs.Read.{State, table_of};
 ghost use Rattle.annexg.specs.Sync.{sync_table, sync_end, code_for};

@@ -1,5 +1,7 @@
 // The geometry of a block, a sector and a frame (ECMA-268, clauses 16 to 21): every length by its name, and where rows, columns, frames and SYNC Codes stand.
 // The lengths are those of specs/Lengths.antt, in bytes where nothing else is said.
+#![tactic(auto)]
+
 mod block;
 
 ghost use Rattle.std.specs.Prelude.{◌≡◌, ◌<◌};

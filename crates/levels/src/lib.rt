@@ -1,4 +1,6 @@
 // The NRZI level and the Digital Sum Value over code bits: the running record.
+#![tactic(auto)]
+
 mod table;
 
 ghost use Rattle.std.specs.Prelude.{◌≡◌, [], ◌∷◌, ◌<◌, ◌≤◌};

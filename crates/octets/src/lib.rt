@@ -1,4 +1,6 @@
 // Bytes in buffers: the copy, half words of 16 bits, single bits. Every other crate that moves bytes goes through these.
+#![tactic(auto)]
+
 ghost use Rattle.std.specs.Prelude.{◌≡◌, ◌+◌, ◌*◌, ◌%◌, ◌<◌, ◌≤◌, length};
 ghost use Rattle.std.proofs.lemmas.List.Edits.{sets};
 ghost use Rattle.lists.specs.Count.{bit};

@@ -1,4 +1,6 @@
 // The parity bytes of the Reed-Solomon codes of ECMA-268 (16.2 and clause 18), and the bytes of a packed register.
+#![tactic(auto)]
+
 mod columns;
 mod ied;
 mod parity;

@@ -1,4 +1,6 @@
 // Two readings of one block, pooled before the repair (document 02, request 8): each place gets what the two together know of it.
+#![tactic(auto)]
+
 ghost use Rattle.std.specs.Prelude.{◌≡◌, true, not, cond, ◌&&◌, ◌≤◌, eqb, length};
 ghost use Rattle.lists.specs.Count.{bit};
 ghost use Rattle.layout.specs.Lengths.{block_size};

@@ -1,6 +1,8 @@
 // The sector reader (document 01, 'Reading a word, and the repair'): 4,838 bytes of stream, a sector and the two bytes after it, to 2,366 bytes, as many marks
 // (document 02, request 2) and two tallies. The field's word for a marked byte is an erasure. The tables are made once a call of `read_sector` and lent from there
 // on; a caller that reads many sectors makes them itself and calls `read_sector_with`. And the closing code after the last sector of a run, judged.
+#![tactic(auto)]
+
 ghost use Rattle.std.specs.Prelude.{◌≡◌, ◌+◌, ◌*◌, ◌≤◌, length};
 ghost use Rattle.lists.specs.Count.{bit};
 ghost use Rattle.annexg.specs.Read.{table_of};

@@ -1,5 +1,7 @@
 // Reed-Solomon codes over GF(256): the inner code of 182 bytes with 10 roots and the outer code of 208 bytes with 16
 // (ECMA-268, clause 18).
+#![tactic(auto)]
+
 mod column;
 mod erasures;
 mod locate;

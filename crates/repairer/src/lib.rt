@@ -1,5 +1,7 @@
 // The block repairer (document 01, 'Reading a word, and the repair'): rows, then columns, then the frames' checks, then the
 // main data.
+#![tactic(auto)]
+
 ghost use Rattle.std.specs.Prelude.{◌≡◌, ◌&&◌, ◌<◌, eqb, length};
 ghost use Rattle.layout.specs.Lengths.{row_count, main_size, block_size};
 ghost use Rattle.repairer.specs.Answer.{marks_fit, repair_answer, block_after, main_after, repair_number, repair_refusal, repair_frame, refused_frame};

@@ -1,4 +1,6 @@
 // Scrambling (ECMA-268, clause 17) of the main data bytes of a frame. The frame goes in and comes back by value.
+#![tactic(auto)]
+
 ghost use Rattle.std.specs.Prelude.{◌≡◌, ℕ, ◌%◌, ◌<◌, get_or};
 ghost use Rattle.lists.specs.Fill.{tabulate};
 ghost use Rattle.layout.specs.Lengths.{frame_main_size};

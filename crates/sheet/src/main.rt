@@ -1,4 +1,6 @@
 // The bench sheet (document 01): a block's stream on standard input, one line on standard output.
+#![tactic(auto)]
+
 ghost use Rattle.std.specs.Prelude.{◌≡◌, length};
 ghost use Rattle.layout.specs.Lengths.{main_size, block_size};
 

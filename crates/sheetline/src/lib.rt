@@ -1,4 +1,6 @@
 // The line of the bench sheet (document 01, 'The bench sheet'), laid in a buffer of the caller's.
+#![tactic(auto)]
+
 mod numbers;
 
 ghost use Rattle.std.specs.Prelude.{◌≡◌, ◌++◌, ◌+◌, ◌≤◌, length};

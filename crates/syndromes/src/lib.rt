@@ -1,5 +1,7 @@
 // The syndromes of a word (document 01: its sums at the roots), over words of any length and any number of roots: each by itself, as the value at a root, and
 // those of what the generator leaves of a word, which are the word's own.
+#![tactic(auto)]
+
 ghost use Rattle.std.specs.Prelude.{◌≡◌, ◌≤◌, length, take};
 ghost use Rattle.lists.specs.Fill.{tabulate};
 ghost use Rattle.field.specs.Inner.{LogTable};

@@ -1,5 +1,7 @@
 // The unstarred trials of document 01's table, the refusals of a run (document 02, request 1), and what a second formatter made (tests/), run through the library.
 // It prints a line a case; `stdout` beside this folder holds what is due. The cases are in `data/`.
+#![tactic(auto)]
+
 mod compare;
 mod signed;
 

@@ -1,6 +1,8 @@
 // An index of the Code Words of annex G: it says where the search through the columns begins, and nothing else. For a word that stands for a byte that is an
 // entry that fits, so that the search ends in one step; a word that fits nothing is unknown wherever the search begins. The index is made once from the tables
 // and then lent, as they are.
+#![tactic(auto)]
+
 ghost use Rattle.std.specs.Prelude.{◌≡◌, ◌<◌};
 ghost use Rattle.annexg.specs.Read.{table_of, read_word, reading_number};
 ghost use Rattle.wordindex.specs.Inner.{slot_of, put_one, put_entry, put_all, word_index};

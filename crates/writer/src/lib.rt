@@ -1,5 +1,7 @@
 // The writer: sectors and the closing code by the two-stream rule of clause 22, from a record that goes in and comes back by value. A sector is tried and then taken;
 // the sixteen of a block are laid in one call. A run of blocks is the sectors of all of them, one after the other, and then the closing code.
+#![tactic(auto)]
+
 mod refusal;
 mod sector;
 mod write;

@@ -1,4 +1,6 @@
 // Runs of ZEROs: across the join of two half words, and those of a whole stream. "Zero run" is the project's word for a run of ZEROs between two ONEs.
+#![tactic(auto)]
+
 ghost use Rattle.std.specs.Prelude.{◌≡◌, ◌&&◌, ◌+◌, ◌-◌, ◌<◌, ◌≤◌, leb, length};
 ghost use Rattle.lists.specs.Count.{bit};
 ghost use Rattle.annexg.specs.ZeroRuns.{inside};
