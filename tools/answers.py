@@ -210,7 +210,8 @@ def as_record(body, fields):
     if t.startswith("(") and matching(t, 0) == len(t) - 1:
         parts = split_top(t[1:-1])
         if len(parts) == len(fields):
-            return head + ("" if not head or head[-1].isspace() else " ") + "record {\n" + "".join(f"  {f} = {p};\n" for f, p in zip(fields, parts)) + "}"
+            rec = "record {\n" + "".join(f"      {f} = {p};\n" for f, p in zip(fields, parts)) + "    }"
+            return (head.rstrip() + "\n    " if head.strip() else "") + rec
     return None
 
 
@@ -287,6 +288,8 @@ def turn(crate, func_dir, data, mod):
                     said.append(f"{new}: a record of {fields} is due")
                 else:
                     body = r
+            if "\n" in body.strip() and not body.startswith("\n") and not body.startswith("record"):
+                body = "\n    " + body
             comment = "\n".join(l for l in b.split("\n") if l.startswith("--"))
             ans.append((comment + "\n" if comment else "") + f"pub {new} : goal.{new}\n" + (unf + "\n" if unf else "") + f"{new} c =" + ("" if body.startswith("\n") else " ") + body.rstrip())
             kept += 1

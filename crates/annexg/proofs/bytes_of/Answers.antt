@@ -11,13 +11,14 @@ use Rattle.annexg.proofs.bytes_of.Goals as goal
 
 pub returns-then-table-eq0 : goal.returns-then-table-eq0
 returns-then-table-eq0 c = record {
-  result_value = sym (ap (λ (t : ℕ). length (table_of t)) c.if-table-eq0.true ∙ length_main);
-  upper_bound = lit≤ tt;
-}
+      result_value = sym (ap (λ (t : ℕ). length (table_of t)) c.if-table-eq0.true ∙ length_main);
+      upper_bound = lit≤ tt;
+    }
 
 pub returns-else-table-eq0 : goal.returns-else-table-eq0
-returns-else-table-eq0 c = let one : c.args.table ≡ 1 = omega arith in
-record {
-  result_value = sym (ap (λ (t : ℕ). length (table_of t)) one ∙ length-sub);
-  upper_bound = lit≤ tt;
-}
+returns-else-table-eq0 c =
+    let one : c.args.table ≡ 1 = omega arith in
+    record {
+      result_value = sym (ap (λ (t : ℕ). length (table_of t)) one ∙ length-sub);
+      upper_bound = lit≤ tt;
+    }

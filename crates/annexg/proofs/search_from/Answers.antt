@@ -32,7 +32,7 @@ loop-s-preserved c = let a = c.args in
     let k = c.loop-b.b * 4 + c.loop-s.s in
     let inside : k < length (table_of t) = omega (arith, c.bytes_of-n.ensures.result_value) in
     let unfit : fits_of a.word a.zero (get_or (table_of t) k 0) ≡ false =
-    ap (fits_of a.word a.zero) (sym c.entry-e.ensures) ∙ sym c.fits2.ensures ∙ c.if-fits.false
+    ap (fits_of a.word a.zero) (sym c.entry-e.ensures) ∙ sym c.fits.ensures ∙ c.if-fits.false
     in
     (search rules, c.loop-s.invariant.1 ∙ from_unfit a.word a.zero t k two inside unfit ∙ ap (read_from a.word a.zero t) (omega arith))
 
@@ -55,7 +55,7 @@ returns-then-fits c = let a = c.args in
     let k = c.loop-b.b * 4 + c.loop-s.s in
     let inside : k < length (table_of t) = omega (arith, c.bytes_of-n.ensures.result_value) in
     let fit : fits_of a.word a.zero (get_or (table_of t) k 0) ≡ true =
-    ap (fits_of a.word a.zero) (sym c.entry-e.ensures) ∙ sym c.fits2.ensures ∙ c.if-fits.true
+    ap (fits_of a.word a.zero) (sym c.entry-e.ensures) ∙ sym c.fits.ensures ∙ c.if-fits.true
     in
     sym (ap reading_number (c.loop-s.invariant.1 ∙ from_fit a.word a.zero t k two inside fit ∙ ap Byte (omega arith)))
 
