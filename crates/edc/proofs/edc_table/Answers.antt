@@ -3,12 +3,8 @@ use mathlib.Core.Path.{refl}
 use Rattle.lists.specs.Fill.{tabulate_from}
 use Rattle.edc.specs.Edc.{edc_bit, edc_bits, edc_from}
 use Rattle.edc.specs.Inner.{edc_entry, edc_table}
-use Rattle.edc.proofs.edc_table.Statement.{statement}
-use Rattle.edc.proofs.edc_table.Tie as tie
+use Rattle.edc.proofs.edc_table.Goals as goal
 
-returns : tie.Need-returns
+pub returns : goal.returns
 unfolding edc_table edc_entry tabulate_from edc_from edc_bits edc_bit
 returns c = refl
-
-pub edc_table_spec : {M : Type 1} → statement M
-edc_table_spec = tie.close (tie.spec returns)
