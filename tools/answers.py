@@ -106,6 +106,7 @@ class Function:
             if clause and clause.get("fields"):
                 self.fields[new] = clause["fields"]
         self.pre = (data["pre"] or {}).get("fields")
+        self.places = {norm(place[0]): new for place, new in zip(data["places"], data["places_by_name"])}
         self.loops = data["loops"]
         self.changed = data["changed"]
 
@@ -166,6 +167,11 @@ class Function:
         def turn(m):
             whole = aliases[m[1]] + [s for s in m[2].split(".") if s]
             new = self.path(whole)
+            if not new:
+                return ".".join(["c"] + whole)
+            fields = self.pre if new == ["requires"] else self.fields.get(new[0]) if new[1:] == ["ensures"] else None
+            if fields and len(fields) > 1:
+                return "(" + ", ".join(".".join(["c"] + new + [field]) for field in fields) + ")"
             return ".".join(["c"] + new)
 
         return re.sub(rf"(?<![^\s(){{}};,])({names})((?:\.{NAME})*)(?![^\s(){{}}.;,])", turn, body)
@@ -236,7 +242,7 @@ def turn(crate, func_dir, data, mod):
             if first:
                 head += [l for l in b.split("\n") if l.startswith("--")]
                 first = False
-            if ".Statement." in s or s.rstrip().endswith("Tie as tie"):
+            if ".Statement." in s or re.search(r"\.(Tie|Lts|Reads) as \S+$", s.rstrip()):
                 continue
             uses.append(s)
             continue
@@ -296,8 +302,14 @@ def turn(crate, func_dir, data, mod):
             continue
         if re.search(r": \{M : Type 1\} → statement M|statement M", line):
             continue
+        at = re.match(r"abbrev (\S+) : Type 0\n\1 =\s+lts\.([^\s(){}]+)[^\n]*(\n .*)*$", s)
+        if at and norm(at[2]) in f.places:
+            ans.append(f"abbrev {at[1]} : Type 0\n{at[1]} = goal.{f.places[norm(at[2])]}")
+            continue
+        if re.search(r"\bc\.", s):
+            b = f.paths(b)
         ans.append(b)
-        if "tie." in b:
+        if "tie." in b or "lts." in b:
             said.append("a helper names tie.: " + line[:80])
     top = [l for l in head if l.strip()]
     top = [re.sub(r"`bytes::", "`octets::", l) for l in top]

@@ -8,6 +8,6 @@ use Rattle.edc.proofs.edc_four.Goals as goal
 pub returns : goal.returns
 unfolding add
 returns c =
-    let a = c.args in
-    table_four a.table.now a.r a.a a.b a.c a.d _ _ _ _ c.requires (omega arith) c.index-h.ensures c.index-i.ensures
-    c.index-j.ensures c.index-k.ensures
+    table_four c.args.table.now c.args.r c.args.a c.args.b c.args.c c.args.d _ _ _ _ c.requires (omega arith) (c.index-h.ensures.value, c.index-h.ensures.upper_bound)
+    (c.index-i.ensures.value, c.index-i.ensures.upper_bound) (c.index-j.ensures.value, c.index-j.ensures.upper_bound)
+    (c.index-k.ensures.value, c.index-k.ensures.upper_bound)
