@@ -1,0 +1,12 @@
+-- `annexg::fits` meets its contract. Assumes nothing.
+use mathlib.Core.Path.{ap}
+use mathlib.Core.Bool.{Bool, ◌&&◌}
+use Prim.Native.Nat.{◌/◌}
+use lib.Dec.{eqb}
+use borrow.Author.Rules.{rules}
+use Rattle.annexg.specs.Read.{fits_of}
+use Rattle.annexg.proofs.fits.Goals as goal
+
+pub returns : goal.returns
+unfolding fits_of
+returns c = let a = c.args in ap (λ (b : Bool). eqb (a.entry / 16) a.word && b) c.agrees_with.ensures

@@ -1,0 +1,37 @@
+-- `annexg::search_from` meets its contract. The search is followed entry by entry: what is left of it from each place on is `read_from`.
+-- Assumes nothing.
+use mathlib.Core.Path.{◌≡◌, sym, ap, ◌∙◌}
+use mathlib.Core.Bool.{true, false}
+use Prim.Native.Nat.{ℕ, suc, ◌+◌, ◌*◌, ◌-◌, ◌≤◌, ◌<◌}
+use native.Mathlib.Omega.{arith}
+use borrow.Author.Rules.{rules}
+use lib.ListN.{length, get_or}
+use Rattle.annexg.specs.Read.{table_of, fits_of, reading_number}
+use Rattle.annexg.specs.Inner.{read_from}
+use Rattle.annexg.specs.declared.Reading.TheVariants.{Byte}
+use Rattle.annexg.proofs.Search.{from_unfit, from_fit, from_end, from_past}
+use Rattle.annexg.proofs.search_from.Given as goal
+
+abbrev pub invariant-loop-s : goal.invariant-loop-s
+invariant-loop-s l = (l.s ≤ 4) × (read_from l.word l.zero l.table l.at ≡ read_from l.word l.zero l.t (l.b * 4 + l.s))
+
+abbrev pub decreases-loop-s : goal.decreases-loop-s
+decreases-loop-s l = 4 - l.s
+
+abbrev pub invariant-loop-b : goal.invariant-loop-b
+invariant-loop-b l = (l.column ≤ 3) × (read_from l.word l.zero l.table l.at ≡ read_from l.word l.zero l.t (l.b * 4 + l.column))
+
+abbrev pub decreases-loop-b : goal.decreases-loop-b
+decreases-loop-b l = l.n - l.b
+
+abbrev pub invariant-loop-t : goal.invariant-loop-t
+invariant-loop-t l = (l.column ≤ 3) × (read_from l.word l.zero l.table l.at ≡ read_from l.word l.zero l.t (l.byte * 4 + l.column))
+
+abbrev pub decreases-loop-t : goal.decreases-loop-t
+decreases-loop-t l = 2 - l.t
+
+abbrev pub invariant-found : goal.invariant-found
+invariant-found l = (l.column ≤ 3) × (read_from l.word l.zero l.table l.at ≡ read_from l.word l.zero l.table (l.byte * 4 + l.column))
+
+abbrev pub decreases-found : goal.decreases-found
+decreases-found l = 0

@@ -1,0 +1,15 @@
+-- `block::frame_at` meets its contract: each turn reads one row. Assumes nothing.
+use mathlib.Core.Path.{◌≡◌, refl}
+use Prim.Native.Nat.{◌+◌, ◌*◌, ◌/◌, ◌%◌, ◌≤◌, ◌-◌}
+use lib.ListN.{length, get_or, drop, length-take}
+use Rattle.lists.proofs.Fill.{Upto, upto_none, upto_all}
+use Rattle.layout.specs.Rows.{recording_row, frame_of}
+use Rattle.layout.proofs.Places.{frame_read}
+use native.Mathlib.Omega.{arith}
+use Rattle.layout.proofs.block.frame_at.Given as goal
+
+abbrev pub invariant-loop-r : goal.invariant-loop-r
+invariant-loop-r l = (l.r ≤ 12) × (length l.initial.frame ≡ 2064) × Upto (λ q. get_or l.block (recording_row (12 * l.k + q / 172) * 182 + q % 172) 0) l.initial.frame l.frame (172 * l.r)
+
+abbrev pub decreases-loop-r : goal.decreases-loop-r
+decreases-loop-r l = 12 - l.r

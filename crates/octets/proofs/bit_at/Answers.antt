@@ -1,0 +1,10 @@
+-- `octets::bit_at` meets its contract.
+-- Assumes nothing.
+use Rattle.octets.specs.Halves.{bit_at}
+use Rattle.octets.proofs.Halves.{odd_bit}
+use borrow.Author.Rules.{rules}
+use Rattle.octets.proofs.bit_at.Goals as goal
+
+pub returns : goal.returns
+unfolding bit_at
+returns c = odd_bit _
