@@ -166,6 +166,9 @@ class Function:
         def turn(m):
             whole = aliases[m[1]] + [s for s in m[2].split(".") if s]
             new = self.path(whole)
+            fields = self.pre if new == ["requires"] else self.fields.get(new[0]) if len(new) == 2 and new[1] == "ensures" else None
+            if fields and len(fields) > 1:  # a record today, a tuple before
+                return "(" + ", ".join(".".join(["c"] + new + [x]) for x in fields) + ")"
             return ".".join(["c"] + new)
 
         return re.sub(rf"(?<![^\s(){{}};,])({names})((?:\.{NAME})*)(?![^\s(){{}}.;,])", turn, body)
