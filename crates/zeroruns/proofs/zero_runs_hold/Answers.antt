@@ -1,13 +1,10 @@
 -- `zeroruns::zero_runs_hold` meets its contract. What is left of the test after j bits is the test of the bits from j on.
 -- Assumes nothing.
-use mathlib.Core.Path.{◌≡◌, refl, sym, ◌∙◌}
-use mathlib.Core.Bool.{◌&&◌}
-use Prim.Native.Nat.{◌*◌, ◌-◌, ◌≤◌}
+use mathlib.Core.Path.{refl, sym, ◌∙◌}
 use native.Mathlib.Omega.{arith}
 use borrow.Author.Tests.{le-leb, lt-leb}
-use lib.ListN.{length, drop}
+use lib.ListN.{length}
 use Rattle.layout.specs.Lengths.{stream_size}
-use Rattle.channel.specs.Bits.{bits_bytes, zero_runs_from, zero_runs_hold}
 use Rattle.zeroruns.proofs.Scanning.{scan_more, scan_end}
 use Rattle.zeroruns.proofs.zero_runs_hold.Goals as goal
 
@@ -19,9 +16,9 @@ loop-j-init c = (omega arith, omega arith, refl)
 
 pub next-scan-requires : goal.next-scan-requires
 next-scan-requires c = record {
-      zeros_le_j = omega arith;
-      j_lt_stream_bits = omega arith;
-    }
+  zeros_le_j = omega arith;
+  j_lt_stream_bits = omega arith;
+}
 
 pub loop-j-preserved : goal.loop-j-preserved
 loop-j-preserved c =
