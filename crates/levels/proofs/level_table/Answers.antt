@@ -4,12 +4,8 @@ use mathlib.Core.Path.{refl}
 use Rattle.lists.specs.Fill.{tabulate_from}
 use Rattle.levels.specs.Level.{level_after}
 use Rattle.levels.specs.Inner.{at_one, byte_levels, level_table}
-use Rattle.levels.proofs.level_table.Statement.{statement}
-use Rattle.levels.proofs.level_table.Tie as tie
+use Rattle.levels.proofs.level_table.Goals as goal
 
-returns : tie.Need-returns
+pub returns : goal.returns
 unfolding level_table tabulate_from byte_levels at_one level_after
 returns c = refl
-
-pub level_table_spec : {M : Type 1} → statement M
-level_table_spec = tie.close (tie.spec returns)
