@@ -171,7 +171,9 @@ class Function:
                 return "(" + ", ".join(".".join(["c"] + new + [x]) for x in fields) + ")"
             return ".".join(["c"] + new)
 
-        return re.sub(rf"(?<![^\s(){{}};,])({names})((?:\.{NAME})*)(?![^\s(){{}}.;,])", turn, body)
+        body = re.sub(rf"(?<![^\s(){{}};,])({names})((?:\.{NAME})*)(?![^\s(){{}}.;,])", turn, body)
+        # the test of an `if !x` speaks of x itself today
+        return re.sub(r"not-(?:true|false) (?:_|[^\s()]+) (c\.if-not[^\s(),]*\.(?:true|false))", r"\1", body)
 
 
 def clause_of(block):
