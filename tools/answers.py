@@ -107,6 +107,7 @@ class Function:
                 self.fields[new] = clause["fields"]
         self.pre = (data["pre"] or {}).get("fields")
         self.loops = data["loops"]
+        self.typed = {norm(known): variable for place in data["typed"] for variable, known in place}
         self.changed = data["changed"]
 
     def need(self, name):
@@ -118,6 +119,19 @@ class Function:
                 return k, None
         return None, None
 
+    def clause(self, fields, rest):
+        """The clause that nested pairs (`.1.1.0`) or one number name, as segments; None: several, from the answer's second on."""
+        n, i = len(fields), 0
+        if rest[0].isdigit() and int(rest[0]) > 1:
+            return ([fields[int(rest[0])]] + rest[1:] if int(rest[0]) < n else rest), None
+        while i < n - 1 and rest[:1] == ["1"]:
+            rest, i = rest[1:], i + 1
+        if i == n - 1:
+            return [fields[i]] + rest, None
+        if rest[:1] == ["0"]:
+            return [fields[i]] + rest[1:], None
+        return (None, i) if not rest else (rest, None)
+
     def path(self, segs):
         """The new spelling of the segments behind c, leading before's dropped."""
         segs = [s for s in segs]
@@ -127,17 +141,17 @@ class Function:
             return []
         head = segs[0]
         rest = segs[1:]
-        if head == "requires" and rest and rest[0].isdigit() and self.pre:
-            k = int(rest[0])
-            if k < len(self.pre):
-                return ["requires", self.pre[k]] + rest[1:]
+        if head == "requires" and rest and rest[0].isdigit() and self.pre and len(self.pre) > 1:
+            new, k = self.clause(self.pre, rest)
+            return ["requires"] + (new if new else [f"FROM-{k}"])
+        if rest[:1] == ["given"] and norm(head) in self.typed:
+            return ["type_inv", self.typed[norm(head)]] + rest[1:]
         step = self.steps.get(norm(head))
         if step:
             head = step
             if rest[:1] == ["ensures"] and len(rest) > 1 and rest[1].isdigit() and step in self.fields:
-                k = int(rest[1])
-                if k < len(self.fields[step]):
-                    rest = ["ensures", self.fields[step][k]] + rest[2:]
+                new, k = self.clause(self.fields[step], rest[1:])
+                rest = ["ensures"] + (new if new else [f"FROM-{k}"])
         return [head] + rest
 
     def paths(self, body):
@@ -154,6 +168,7 @@ class Function:
                 while w and w[0] == "before":
                     w.pop(0)
                 told = len(w) == 2 and w[1] == "ensures" and self.steps.get(norm(w[0])) in self.fields or w == ["requires"] and self.pre
+                told = told or any(x.startswith("FROM-") for x in self.path(whole)) or (w[:1] == ["requires"] and self.pre)
                 if not w or (len(w) == 1 and norm(w[0]) in self.steps) or told:
                     aliases[m[1]] = whole
         names = "|".join(sorted(map(re.escape, aliases), key=len, reverse=True))
@@ -166,13 +181,20 @@ class Function:
         def turn(m):
             whole = aliases[m[1]] + [s for s in m[2].split(".") if s]
             new = self.path(whole)
-            fields = self.pre if new == ["requires"] else self.fields.get(new[0]) if len(new) == 2 and new[1] == "ensures" else None
+            fields = self.pre if new[:1] == ["requires"] and len(new) < 3 else self.fields.get(new[0]) if new[1:2] == ["ensures"] and len(new) < 4 else None
+            if new and new[-1].startswith("FROM-"):
+                fields = fields[int(new[-1][5:]) :]
+                new = new[:-1]
+            elif new and new[-1] not in ("requires", "ensures"):
+                fields = None
             if fields and len(fields) > 1:  # a record today, a tuple before
                 return "(" + ", ".join(".".join(["c"] + new + [x]) for x in fields) + ")"
             return ".".join(["c"] + new)
 
-        body = re.sub(rf"(?<![^\s(){{}};,])({names})((?:\.{NAME})*)(?![^\s(){{}}.;,])", turn, body)
+        body = re.sub(rf"(?<![^\s(){{}};,])({names})((?:\.{NAME})*)(?![^\s(){{}}.;,])(?! = )", turn, body)
         # the test of an `if !x` speaks of x itself today
+        # that a slice keeps its length is found without the name
+        body = re.sub(r", c\.[^\s,()]+-1\.given(?=[,)])", "", body)
         return re.sub(r"not-(?:true|false) (?:_|[^\s()]+) (c\.if-not[^\s(),]*\.(?:true|false))", r"\1", body)
 
 
@@ -214,9 +236,14 @@ def as_record(body, fields):
     t = tail.strip()
     if t.startswith("(") and matching(t, 0) == len(t) - 1:
         parts = split_top(t[1:-1])
+        while len(parts) < len(fields) and parts[-1].startswith("(") and matching(parts[-1], 0) == len(parts[-1]) - 1:
+            parts = parts[:-1] + split_top(parts[-1][1:-1])
         if len(parts) == len(fields):
             rec = "record {\n" + "".join(f"      {f} = {p};\n" for f, p in zip(fields, parts)) + "    }"
             return (head.rstrip() + "\n    " if head.strip() else "") + rec
+    if not re.match(r"record|\(|search|grind|elim|⊎-elim|dite", t) and len(fields) < 4:  # a lemma that proves a product
+        rec = "record { " + "; ".join(f"{f} = whole.{k}" for k, f in enumerate(fields)) + " }"
+        return (head.rstrip() + "\n    " if head.strip() else "") + "let whole = " + t + " in\n    " + rec
     return None
 
 
@@ -296,7 +323,7 @@ def turn(crate, func_dir, data, mod):
             if "\n" in body.strip() and not body.startswith("\n") and not body.startswith("record"):
                 body = "\n    " + body
             comment = "\n".join(l for l in b.split("\n") if l.startswith("--"))
-            ans.append((comment + "\n" if comment else "") + f"pub {new} : goal.{new}\n" + (unf + "\n" if unf else "") + f"{new} c =" + ("" if body.startswith("\n") else " ") + body.rstrip())
+            ans.append((comment + "\n" if comment else "") + f"pub {new} : goal.{new}\n" + (unf + "\n" if unf else "") + f"{new} {' '.join(['c'] + [a for a in args[1:] if a != 'κs'])} =" + ("" if body.startswith("\n") else " ") + body.rstrip())
             kept += 1
             continue
         if re.search(r": \{M : Type 1\} → statement M|statement M", line):
