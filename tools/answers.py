@@ -98,14 +98,18 @@ class Function:
             self.needs[norm(old)] = new
         self.settled = set(map(norm, data["settled"]))
         self.asked = {norm(k): v for k, v in data["asked"].items()}
-        self.steps, self.fields = {}, {}
+        self.steps, self.fields, self.arms = {}, {}, {}
         for place, clause in zip(data["places"], data["clauses"]):
             old, new = place[2]
             if old:
                 self.steps[norm(old)] = new
+                k = re.fullmatch(r"At-(.*)-(keys\d+)", place[0])
+                if k:
+                    self.arms[norm(k[1]), k[2]] = new
             if clause and clause.get("fields"):
                 self.fields[new] = clause["fields"]
         self.pre = (data["pre"] or {}).get("fields")
+        self.callee = {place[2][1]: data["params"].get(place[3]) for place in data["places"] if place[3]}
         self.loops = data["loops"]
         self.typed = {norm(known): variable for place in data["typed"] for variable, known in place}
         self.changed = data["changed"]
@@ -146,9 +150,24 @@ class Function:
             return ["requires"] + (new if new else [f"FROM-{k}"])
         if rest[:1] == ["given"] and norm(head) in self.typed:
             return ["type_inv", self.typed[norm(head)]] + rest[1:]
+        if rest and (norm(head), rest[0]) in self.arms:  # what a `match` tells of the value: its variant, or that it is not an earlier arm's
+            arm = self.arms[norm(head), rest[0]]
+            earlier = re.match(r"in-([^-]*)", self.arms.get((norm(head), "keys1"), ""))
+            return [arm, "not-" + earlier[1] if arm.startswith("in_default") and earlier else "is"] + rest[1:]
+        plain = re.sub(r"_lem$", "", head)
+        plain = plain[:1].lower() + plain[1:]
+        if norm(head) not in self.steps and norm(plain) in self.steps:
+            head = plain
         step = self.steps.get(norm(head))
         if step:
             head = step
+            if rest[:1] in (["new"], ["auto"]) and rest[1:2] and rest[1] in "01" and self.callee.get(step):
+                i = 1
+                while rest[i : i + 1] == ["1"]:
+                    i += 1
+                params = self.callee[step]
+                if rest[i : i + 1] == ["0"] and i - 1 < len(params):
+                    rest = [rest[0], params[i - 1]] + rest[i + 1 :]
             if rest[:1] == ["ensures"] and len(rest) > 1 and rest[1].isdigit() and step in self.fields:
                 new, k = self.clause(self.fields[step], rest[1:])
                 rest = ["ensures"] + (new if new else [f"FROM-{k}"])
@@ -188,14 +207,15 @@ class Function:
             elif new and new[-1] not in ("requires", "ensures"):
                 fields = None
             if fields and len(fields) > 1:  # a record today, a tuple before
-                return "(" + ", ".join(".".join(["c"] + new + [x]) for x in fields) + ")"
+                parts = [".".join(["c"] + new + [x]) for x in fields]
+                return "(" + ", (".join(parts) + ")" * (len(parts) - 1) if len(parts) > 2 else "(" + ", ".join(parts) + ")"
             return ".".join(["c"] + new)
 
         body = re.sub(rf"(?<![^\s(){{}};,])({names})((?:\.{NAME})*)(?![^\s(){{}}.;,])(?! = )", turn, body)
         # the test of an `if !x` speaks of x itself today
         # that a slice keeps its length is found without the name
         body = re.sub(r", c\.[^\s,()]+-1\.given(?=[,)])", "", body)
-        return re.sub(r"not-(?:true|false) (?:_|[^\s()]+) (c\.if-not[^\s(),]*\.(?:true|false))", r"\1", body)
+        return re.sub(r"not-(?:true|false) (?:_|[^\s()]+\.result|a\.\w+|c\.args\.\w+) (c\.if-not[^\s(),]*\.(?:true|false))", r"\1", body)
 
 
 def clause_of(block):
@@ -242,7 +262,7 @@ def as_record(body, fields):
             rec = "record {\n" + "".join(f"      {f} = {p};\n" for f, p in zip(fields, parts)) + "    }"
             return (head.rstrip() + "\n    " if head.strip() else "") + rec
     if not re.match(r"record|\(|search|grind|elim|⊎-elim|dite", t) and len(fields) < 4:  # a lemma that proves a product
-        rec = "record { " + "; ".join(f"{f} = whole.{k}" for k, f in enumerate(fields)) + " }"
+        rec = "record { " + "; ".join(f"{f} = whole" + ".1" * k + ".0" * (k < len(fields) - 1) for k, f in enumerate(fields)) + " }"
         return (head.rstrip() + "\n    " if head.strip() else "") + "let whole = " + t + " in\n    " + rec
     return None
 

@@ -7,26 +7,22 @@ use mir.Syntax.{w64}
 use mir.ValLaws.{to_z-of_z}
 use Rattle.writer.specs.Records.{offset}
 use Rattle.writer.proofs.Signed.{up, fits_abs, offset_small}
-use Rattle.writer.proofs.refusal.offset_of.Statement.{statement}
-use Rattle.writer.proofs.refusal.offset_of.Tie as tie
+use Rattle.writer.proofs.refusal.offset_of.Goals as goal
 
-add-result : tie.Need-overflow-add-result
-add-result c =
+pub overflow_add-result : goal.overflow_add-result
+overflow_add-result c =
     let d = c.args.dsv in
     rw (to_z-of_z w64 d c.ranges.dsv, up d c.requires) (fits_abs (pos (offset d)) (offset_small d c.requires))
 
-cast-result : tie.Need-overflow-cast-result
-cast-result c =
+pub overflow_cast-result : goal.overflow_cast-result
+overflow_cast-result c =
     let d = c.args.dsv in
     let small = offset_small d c.requires in
     rw (to_z-of_z w64 d c.ranges.dsv, up d c.requires, to_z-of_z w64 (pos (offset d)) (fits_abs (pos (offset d)) small))
     (tt, record { fits = omega (arith, small) })
 
-returns : tie.Need-returns
+pub returns : goal.returns
 returns c =
     let d = c.args.dsv in
     let small = offset_small d c.requires in
     rw (to_z-of_z w64 d c.ranges.dsv, up d c.requires, to_z-of_z w64 (pos (offset d)) (fits_abs (pos (offset d)) small)) refl
-
-pub offset_of_spec : {M : Type 1} → statement M
-offset_of_spec = tie.close (tie.spec add-result cast-result returns)
