@@ -3,7 +3,6 @@
 use mathlib.Core.Path.{sym, ◌∙◌}
 use native.Mathlib.Omega.{arith}
 use Rattle.lists.proofs.Bytes.{bytes_of}
-use borrow.Author.Rules.{rules}
 use Rattle.writer.proofs.Numbers.{done-number, refused_number}
 use Rattle.writer.proofs.Runs.{sectors_stay, sectors_done}
 use Rattle.writer.proofs.Sound.{sectors_open}

@@ -1,6 +1,5 @@
 -- `writer::refusal::block_refusal` meets its contract.
 -- Assumes nothing.
-use borrow.Author.Rules.{rules}
 use Rattle.writer.proofs.Sound.{block_by_state}
 use Rattle.writer.proofs.refusal.block_refusal.Goals as goal
 

@@ -4,7 +4,6 @@ use mathlib.Core.Path.{refl}
 use mathlib.Core.Bool.{false}
 use borrow.Author.Tests.{ne_eqb}
 use Rattle.writer.proofs.Sound.{closing_by, closing_by_state}
-use borrow.Author.Rules.{rules}
 use Rattle.writer.proofs.refusal.closing_refusal.Goals as goal
 
 pub returns-then-to-ne-CLOSING_SIZE : goal.returns-then-to-ne-CLOSING_SIZE

@@ -1,7 +1,6 @@
 -- `writer::refusal::highest_dsv` meets its contract.
 -- Assumes nothing.
 use native.Mathlib.Omega.{arith}
-use borrow.Author.Rules.{rules}
 use Rattle.writer.proofs.refusal.highest_dsv.Goals as goal
 
 pub returns-then-closed : goal.returns-then-closed

@@ -1,7 +1,6 @@
 -- `writer::refusal::is_ended` meets its contract.
 -- Assumes nothing.
 use mathlib.Core.Path.{refl}
-use borrow.Author.Rules.{rules}
 use Rattle.writer.proofs.Sound.{more_ended}
 use Rattle.writer.proofs.refusal.is_ended.Goals as goal
 

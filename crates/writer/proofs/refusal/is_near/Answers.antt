@@ -5,7 +5,6 @@ use lib.IntN.{ℤ, pos, negsuc}
 use lib.Signed.{lt_z, le_z}
 use mir.Syntax.{w64}
 use mir.ValLaws.{to_z-of_z}
-use borrow.Author.Rules.{rules}
 use Rattle.levels.specs.Level.{zero_at}
 use Rattle.writer.proofs.Signed.{near_low, near_rest}
 use Rattle.writer.proofs.refusal.is_near.Goals as goal

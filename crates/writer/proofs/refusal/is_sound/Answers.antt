@@ -2,8 +2,7 @@
 -- Assumes nothing.
 use mathlib.Core.Path.{refl, sym, ◌∙◌}
 use mathlib.Core.Bool.{true, false}
-use borrow.Author.Rules.{rules}
-use borrow.Author.Tests.{le-leb, lt-leb, not-true, not-false}
+use borrow.Author.Tests.{le-leb, lt-leb}
 use Rattle.layout.specs.Lengths.{run_sectors}
 use Rattle.writer.proofs.Sound.{sound_by, sound_rest}
 use Rattle.writer.proofs.refusal.is_sound.Goals as goal

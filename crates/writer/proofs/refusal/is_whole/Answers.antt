@@ -1,7 +1,6 @@
 -- `writer::refusal::is_whole` meets its contract.
 -- Assumes nothing.
 use mathlib.Core.Path.{refl}
-use borrow.Author.Rules.{rules}
 use Rattle.writer.proofs.refusal.is_whole.Goals as goal
 
 pub returns-then-closed : goal.returns-then-closed

@@ -4,7 +4,6 @@ use mathlib.Core.Path.{refl}
 use mathlib.Core.Bool.{true, false}
 use borrow.Author.Tests.{eq-eqb, ne_eqb}
 use Rattle.writer.proofs.Sound.{sector_by, sector_by_state}
-use borrow.Author.Rules.{rules}
 use Rattle.writer.proofs.refusal.sector_refusal.Goals as goal
 
 pub returns-then-from-ne-SECTOR_SIZE : goal.returns-then-from-ne-SECTOR_SIZE

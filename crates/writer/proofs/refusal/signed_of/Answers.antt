@@ -5,7 +5,6 @@ use mir.Syntax.{w64}
 use mir.ValLaws.{to_z_pos, to_z-of_z}
 use Rattle.writer.specs.Records.{signed}
 use Rattle.writer.proofs.Signed.{fits_abs, signed_small}
-use borrow.Author.Rules.{rules}
 use Rattle.writer.proofs.refusal.signed_of.Goals as goal
 
 pub overflow_sub-result : goal.overflow_sub-result

@@ -1,7 +1,6 @@
 -- `writer::refusal::state_refusal` meets its contract.
 -- Assumes nothing.
 use mathlib.Core.Path.{refl}
-use borrow.Author.Tests.{not-true, not-false}
 use Rattle.writer.proofs.refusal.state_refusal.Goals as goal
 
 pub returns-then-not-sound : goal.returns-then-not-sound

@@ -3,7 +3,6 @@
 use mathlib.Core.Path.{◌≡◌, sym, ap, ◌∙◌}
 use native.Mathlib.Omega.{arith}
 use lib.Seq.{take_all}
-use borrow.Author.Rules.{rules}
 use Rattle.octets.specs.Halves.{packed}
 use Rattle.frames.proofs.Words.{synced}
 use Rattle.layout.specs.Lengths.{closing_size}
@@ -14,11 +13,11 @@ use Rattle.writer.proofs.sector.closing.Goals as goal
 
 pub lay_sync-side-requires : goal.lay_sync-side-requires
 lay_sync-side-requires c = record {
-      levels_value = c.level_table-levels.ensures;
-      syncs_value = c.sync_table-syncs.ensures;
-      room = c.requires.room;
-      in_bounds = omega (arith, c.requires.out_len);
-    }
+  levels_value = c.level_table-levels.ensures;
+  syncs_value = c.sync_table-syncs.ensures;
+  room = c.requires.room;
+  in_bounds = omega (arith, c.requires.out_len);
+}
 
 pub returns : goal.returns
 returns c =

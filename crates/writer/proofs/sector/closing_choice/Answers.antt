@@ -5,7 +5,6 @@ use mathlib.Core.Bool.{not}
 use mathlib.Core.List.{[], ◌∷◌}
 use Prim.Native.Nat.{ℕ}
 use lib.Dec.{leb}
-use borrow.Author.Rules.{rules}
 use Rattle.annexg.specs.Sync.{sync_end}
 use Rattle.levels.specs.Level.{magnitude, running_after}
 use Rattle.levels.specs.declared.Running.{Running}

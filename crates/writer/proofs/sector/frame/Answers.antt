@@ -1,25 +1,24 @@
 -- `writer::sector::frame` meets its contract.
 -- Assumes nothing.
 use native.Mathlib.Omega.{arith}
-use borrow.Author.Rules.{rules}
 use Rattle.writer.proofs.Sectors.{lent_is, lent_length, selected_length, made_frame}
 use Rattle.writer.proofs.sector.frame.Goals as goal
 
 pub frame-shown-requires : goal.frame-shown-requires
 frame-shown-requires c = record {
-      levels_value = c.requires.levels_value;
-      words_value = c.requires.words_value;
-      substitutes_value = c.requires.substitutes_value;
-      syncs_value = c.requires.syncs_value;
-      begins = record {
-              state = c.requires.frame_begins.state;
-              code = c.code_of-code.ensures.upper_bound;
-              room = c.requires.frame_begins.room;
-              bytes = lent_length c.args.bytes.now c.args.k c.requires.frame_begins.bytes c.requires.frame_begins.number;
-              one = omega (arith, c.requires.frame_begins.one);
-              two = omega (arith, c.requires.frame_begins.two);
-            };
-    }
+  levels_value = c.requires.levels_value;
+  words_value = c.requires.words_value;
+  substitutes_value = c.requires.substitutes_value;
+  syncs_value = c.requires.syncs_value;
+  begins = record {
+    state = c.requires.frame_begins.state;
+    code = c.code_of-code.ensures.upper_bound;
+    room = c.requires.frame_begins.room;
+    bytes = lent_length c.args.bytes.now c.args.k c.requires.frame_begins.bytes c.requires.frame_begins.number;
+    one = omega (arith, c.requires.frame_begins.one);
+    two = omega (arith, c.requires.frame_begins.two);
+  };
+}
 
 pub overflow_mul-k : goal.overflow_mul-k
 overflow_mul-k c = omega (arith, c.requires.frame_begins.number)

@@ -1,12 +1,10 @@
 -- `writer::sector::frames` meets its contract: each turn lays one frame more.
 -- Assumes nothing.
-use mathlib.Core.Path.{◌≡◌, ap, ◌∙◌}
-use Prim.Native.Nat.{◌-◌, ◌≤◌, max}
+use mathlib.Core.Path.{ap, ◌∙◌}
+use Prim.Native.Nat.{max}
 use native.Mathlib.Omega.{arith}
-use lib.ListN.{length}
 use Rattle.lists.proofs.Bytes.{bytes_of}
-use Rattle.layout.specs.Lengths.{frame_stream, sector_frames, sector_stream}
-use Rattle.writer.proofs.Sectors.{Laying, laying_none, laying_more, laying_all, frame_begins}
+use Rattle.writer.proofs.Sectors.{laying_none, laying_more, laying_all, frame_begins}
 use Rattle.writer.proofs.sector.frames.Goals as goal
 
 pub loop-k-init : goal.loop-k-init

@@ -1,16 +1,14 @@
 -- `writer::sector::frames` meets its contract: each turn lays one frame more.
 -- Assumes nothing.
-use mathlib.Core.Path.{◌≡◌, ap, ◌∙◌}
-use Prim.Native.Nat.{◌-◌, ◌≤◌, max}
-use native.Mathlib.Omega.{arith}
+use mathlib.Core.Path.{◌≡◌}
+use Prim.Native.Nat.{◌-◌, ◌≤◌}
 use lib.ListN.{length}
-use Rattle.lists.proofs.Bytes.{bytes_of}
 use Rattle.layout.specs.Lengths.{frame_stream, sector_frames, sector_stream}
-use Rattle.writer.proofs.Sectors.{Laying, laying_none, laying_more, laying_all, frame_begins}
+use Rattle.writer.proofs.Sectors.{Laying}
 use Rattle.writer.proofs.sector.frames.Given as goal
 
 abbrev pub invariant-loop-k : goal.invariant-loop-k
-invariant-loop-k l =     (l.k ≤ sector_frames)
+invariant-loop-k l = (l.k ≤ sector_frames)
     × ((length l.stream1 ≡ frame_stream)
     × ((length l.stream2 ≡ frame_stream)
     × ((length l.out ≡ sector_stream)

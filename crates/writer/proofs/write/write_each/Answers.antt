@@ -2,12 +2,11 @@
 -- Assumes nothing.
 use mathlib.Core.Path.{◌≡◌, refl, sym, ap, ◌∙◌}
 use mathlib.Core.List.{List}
-use Prim.Native.Nat.{ℕ, ◌+◌, ◌-◌, ◌*◌, ◌≤◌}
-use lib.ListN.{length, take, drop}
-use Rattle.layout.specs.Lengths.{sector_count, sector_size, sector_stream, sectors_stream}
+use Prim.Native.Nat.{ℕ, ◌+◌, ◌-◌, ◌*◌}
+use lib.ListN.{take, drop}
+use Rattle.layout.specs.Lengths.{sector_count, sector_size, sector_stream}
 use Rattle.writer.proofs.Each.{Written, written_none, written_more, written_length, written_all}
 use native.Mathlib.Omega.{arith}
-use borrow.Author.Rules.{rules}
 use Rattle.writer.proofs.write.write_each.Goals as goal
 
 pub loop-k-init : goal.loop-k-init

@@ -1,13 +1,10 @@
 -- `writer::write::write_each` meets its contract.
 -- Assumes nothing.
-use mathlib.Core.Path.{◌≡◌, refl, sym, ap, ◌∙◌}
-use mathlib.Core.List.{List}
-use Prim.Native.Nat.{ℕ, ◌+◌, ◌-◌, ◌*◌, ◌≤◌}
-use lib.ListN.{length, take, drop}
-use Rattle.layout.specs.Lengths.{sector_count, sector_size, sector_stream, sectors_stream}
-use Rattle.writer.proofs.Each.{Written, written_none, written_more, written_length, written_all}
-use native.Mathlib.Omega.{arith}
-use borrow.Author.Rules.{rules}
+use mathlib.Core.Path.{◌≡◌}
+use Prim.Native.Nat.{◌-◌, ◌≤◌}
+use lib.ListN.{length}
+use Rattle.layout.specs.Lengths.{sector_count, sectors_stream}
+use Rattle.writer.proofs.Each.{Written}
 use Rattle.writer.proofs.write.write_each.Given as goal
 
 abbrev pub invariant-loop-k : goal.invariant-loop-k

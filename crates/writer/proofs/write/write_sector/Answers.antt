@@ -2,7 +2,6 @@
 -- Assumes nothing.
 use mathlib.Core.Path.{sym, ap, subst, ◌∙◌}
 use native.Mathlib.Omega.{arith}
-use borrow.Author.Rules.{rules}
 use Rattle.levels.specs.declared.Running.{Running}
 use Rattle.streams.specs.Frames.{sector_of}
 use Rattle.writer.specs.Inner.{SectorBegins}
