@@ -110,6 +110,8 @@ class Function:
                 self.fields[new] = clause["fields"]
         self.pre = (data["pre"] or {}).get("fields")
         self.callee = {place[2][1]: data["params"].get(place[3]) for place in data["places"] if place[3]}
+        self.args = {a.split(".")[-1]: b.split(".")[-1] for a, b in data["args"] if a.startswith(".args")}
+        self.places = {norm(place[0]): new for place, new in zip(data["places"], data["places_by_name"])}
         self.loops = data["loops"]
         self.typed = {norm(known): variable for place in data["typed"] for variable, known in place}
         self.changed = data["changed"]
@@ -154,6 +156,8 @@ class Function:
             arm = self.arms[norm(head), rest[0]]
             earlier = re.match(r"in-([^-]*)", self.arms.get((norm(head), "keys1"), ""))
             return [arm, "not-" + earlier[1] if arm.startswith("in_default") and earlier else "is"] + rest[1:]
+        if head == "args" and rest and rest[0] in self.args:
+            rest = [self.args[rest[0]]] + rest[1:]
         plain = re.sub(r"_lem$", "", head)
         plain = plain[:1].lower() + plain[1:]
         if norm(head) not in self.steps and norm(plain) in self.steps:
@@ -200,6 +204,8 @@ class Function:
         def turn(m):
             whole = aliases[m[1]] + [s for s in m[2].split(".") if s]
             new = self.path(whole)
+            if not new:
+                return ".".join(["c"] + whole)
             fields = self.pre if new[:1] == ["requires"] and len(new) < 3 else self.fields.get(new[0]) if new[1:2] == ["ensures"] and len(new) < 4 else None
             if new and new[-1].startswith("FROM-"):
                 fields = fields[int(new[-1][5:]) :]
@@ -254,16 +260,21 @@ def as_record(body, fields):
             pass
     head, tail = body[:tail_start], body[tail_start:]
     t = tail.strip()
+    lets = head.rstrip() + "\n    " if head.strip() else ""
+    rec = lambda parts: "record {\n" + "".join(f"      {f} = {p};\n" for f, p in zip(fields, parts)) + "    }"  # noqa: E731
     if t.startswith("(") and matching(t, 0) == len(t) - 1:
         parts = split_top(t[1:-1])
         while len(parts) < len(fields) and parts[-1].startswith("(") and matching(parts[-1], 0) == len(parts[-1]) - 1:
             parts = parts[:-1] + split_top(parts[-1][1:-1])
         if len(parts) == len(fields):
-            rec = "record {\n" + "".join(f"      {f} = {p};\n" for f, p in zip(fields, parts)) + "    }"
-            return (head.rstrip() + "\n    " if head.strip() else "") + rec
-    if not re.match(r"record|\(|search|grind|elim|⊎-elim|dite", t) and len(fields) < 4:  # a lemma that proves a product
-        rec = "record { " + "; ".join(f"{f} = whole" + ".1" * k + ".0" * (k < len(fields) - 1) for k, f in enumerate(fields)) + " }"
-        return (head.rstrip() + "\n    " if head.strip() else "") + "let whole = " + t + " in\n    " + rec
+            return lets + rec(parts)
+    if re.match(r"record |elim |⊎-elim|search |grind ", t):
+        return None
+    # a lemma that gives all clauses at once, as nested pairs
+    part = lambda k: ".1" * k + ".0" * (k < len(fields) - 1)  # noqa: E731
+    if not re.search(r"(?<![^\s(])_(?![^\s)])", t):
+        return (lets or "\n    ") + "let all = " + t + " in\n    " + rec([f"all{part(k)}" for k in range(len(fields))])
+    return lets + rec([f"({t}){part(k)}" for k in range(len(fields))])
     return None
 
 
@@ -272,7 +283,10 @@ EASY = re.compile(r"^\s*(search (rules|needs)|omega arith|tt|refl-nothing)\s*$")
 
 def turn(crate, func_dir, data, mod):
     proof = f"{func_dir}/Proof.antt"
-    text = read(proof)
+    text = re.sub(r"\.Is(First|Sync)-", lambda m: "." + m[1].lower() + "-", read(proof))
+    # a test by `!` says today what its operand is
+    text = re.sub(rf"\(not-(?:true|false) \S+ ({NAME}(?:\.{NAME})+)\)", r"\1", text)
+    text = re.sub(rf"\bnot-(?:true|false) \S+ ({NAME}(?:\.{NAME})+)", r"\1", text)
     said = []
     f = Function(data, said)
     uses, inv, ans, head = [], [], [], []
@@ -288,7 +302,7 @@ def turn(crate, func_dir, data, mod):
             if first:
                 head += [l for l in b.split("\n") if l.startswith("--")]
                 first = False
-            if ".Statement." in s or s.rstrip().endswith("Tie as tie"):
+            if ".Statement." in s or re.search(r"\.(Tie|Lts|Reads) as \S+$", s.rstrip()):
                 continue
             uses.append(s)
             continue
@@ -329,7 +343,7 @@ def turn(crate, func_dir, data, mod):
                 continue
             if EASY.match(body) and not unf:
                 continue
-            args = pat.split()
+            args = [a for a in pat.split()[1:] if a != "κs"]
             body = f.paths(body).lstrip(" ")
             if re.match(r"\s*omega \(arith", body) and "slice_known" in body or re.fullmatch(r"\s*(let \S+ = \S+ in\s*)*omega \(arith[^∙]*_known-[^∙]*\)\s*", body):
                 continue
@@ -343,13 +357,19 @@ def turn(crate, func_dir, data, mod):
             if "\n" in body.strip() and not body.startswith("\n") and not body.startswith("record"):
                 body = "\n    " + body
             comment = "\n".join(l for l in b.split("\n") if l.startswith("--"))
-            ans.append((comment + "\n" if comment else "") + f"pub {new} : goal.{new}\n" + (unf + "\n" if unf else "") + f"{new} {' '.join(['c'] + [a for a in args[1:] if a != 'κs'])} =" + ("" if body.startswith("\n") else " ") + body.rstrip())
+            ans.append((comment + "\n" if comment else "") + f"pub {new} : goal.{new}\n" + (unf + "\n" if unf else "") + " ".join([new, "c", *args, "="]) + ("" if body.startswith("\n") else " ") + body.rstrip())
             kept += 1
             continue
         if re.search(r": \{M : Type 1\} → statement M|statement M", line):
             continue
+        at = re.match(r"abbrev (\S+) : Type 0\n\1 =\s+lts\.([^\s(){}]+)[^\n]*(\n .*)*$", s)
+        if at and norm(at[2]) in f.places:
+            ans.append(f"abbrev {at[1]} : Type 0\n{at[1]} = goal.{f.places[norm(at[2])]}")
+            continue
+        if re.search(r"\bc\.", s):
+            b = f.paths(b)
         ans.append(b)
-        if "tie." in b:
+        if "tie." in b or "lts." in b:
             said.append("a helper names tie.: " + line[:80])
     top = [l for l in head if l.strip()]
     top = [re.sub(r"`bytes::", "`octets::", l) for l in top]

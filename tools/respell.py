@@ -16,8 +16,29 @@ import sys
 
 DECLARED = re.compile(r"^ *(?:(?:abbrev|opaque|unfoldable|pub|instance) +)*(?:record |data )?([^\s:(){},.=|→λ]+)(?: *[({][^=\n]*?)? *:(?=\s|$)", re.M)
 OF_RATTLE = re.compile(r"^ *(?:pub )?(\S+) : (?:tie|goal)\.", re.M)
-TOKEN = re.compile(r"(?<![\w'-])[a-z][\w'-]*(?![\w'-])")
+TOKEN = re.compile(r"(?<![\w'≡≤-])[a-z][\w'-]*(?![\w'≡≤-])")
 CRATE_OLD, CRATE_NEW = "bytes", "octets"
+# lemmas with an operator in their names
+EQUATIONS = [
+    "block-erasures≡erasures-of-block",
+    "block-stream≡permitted-stream",
+    "block-bytes≡read-block",
+    "bool-byte≡bit",
+    "call-answer≡tallies",
+    "call-bytes≡read-sector",
+    "call-erasures≡erasures-of-sector",
+    "call-number≡0",
+    "erasures≡unknown",
+    "errors-self≡0",
+    "errors≤touched",
+    "far-self≡0",
+    "joined≡each-sector",
+    "part-answer≡tallies",
+    "pooled-erasures≤wrong",
+    "pooled-errors≡0",
+    "run-closed-state≡1",
+    "zero-after-the-highest≡10",
+]
 # the words of the library that lemmas are named after
 WORDS = set(
     "length append take drop get_or set sets map sum count reverse replicate filter add sub mul div mod pow lt le eq ne suc zero nil cons mem not min max bit".split()
@@ -113,6 +134,12 @@ def turn_line(line, names, dotted):
     return TOKEN.sub(one, line)
 
 
+def equations(text):
+    for name in EQUATIONS:
+        text = text.replace(name, name.replace("-", "_"))
+    return text
+
+
 def crate_renamed(text):
     text = re.sub(rf"\bRattle\.{CRATE_OLD}\.", f"Rattle.{CRATE_NEW}.", text)
     return text
@@ -123,13 +150,15 @@ def turn_antt(text, names, in_function):
     camel = lambda word: bool(re.search(r"[A-Z]", word.split("-")[0]))  # noqa: E731
     fields = turn_antt.fields
     dotted = (lambda word, head: camel(word) or word in fields or head in aliases) if in_function else (lambda word, head: True)
-    return crate_renamed("\n".join(turn_line(line, names, dotted) for line in text.split("\n")))
+    return crate_renamed("\n".join(turn_line(line, names, dotted) for line in equations(text).split("\n")))
 
 
 turn_antt.fields = set()
 
 
 def turn_rust(text, names):
+    # a name that was in snake case is the source's own here
+    names = {old: new for old, new in names.items() if "-" in old or re.search("[A-Z]", old)}
     out = []
     for part in re.split(r'("(?:[^"\\]|\\.)*")', text):
         out.append(part if part.startswith('"') else TOKEN.sub(lambda m: names.get(m[0], m[0]), part))
@@ -142,7 +171,7 @@ def turn_rust(text, names):
 
 def turn_prose(text, names):
     """Names between backticks."""
-    return re.sub(r"`[^`\n]*`", lambda m: TOKEN.sub(lambda t: names.get(t[0], t[0]), m[0]), text)
+    return re.sub(r"`[^`\n]*`", lambda m: TOKEN.sub(lambda t: names.get(t[0], t[0]), m[0]), equations(text))
 
 
 def main():

@@ -19,7 +19,7 @@ use Rattle.layout.specs.Sectors.{sector_part}
 use Rattle.channel.proofs.Sectors.{part_read, part_unknown, read_block_lem, erasures_block}
 use Rattle.reader.specs.Sector.{lost_sync, unknown_tally, sync_tally, sector_fits, sector_answer, sector_after, erasures_after}
 use Rattle.reader.specs.declared.SectorRead.{SectorRead}
-use Rattle.reader.proofs.Calls.{part_fits, part-answer≡tallies}
+use Rattle.reader.proofs.Calls.{part_fits, part_answer≡tallies}
 use Rattle.layout.specs.Lengths.{block_size, sector_size, stream_size}
 use Rattle.blockreader.specs.BlockReader.{sector_sum}
 use Rattle.blockreader.specs.Inner.{add_sector}
@@ -99,7 +99,7 @@ module _ (xs part : List ℕ) (k : ℕ) (hk : k < 16) (whole : length xs ≡ str
   pub sums_next : (s t : Sums) (n m : ℕ) (r : SectorRead) → n ≡ sector_size → m ≡ sector_size → r ≡ sector_answer part n m → t ≡ add_sector s r
       → (t.unknown ≡ s.unknown + unknown_tally (sector_part xs k)) × (t.sync ≡ s.sync + sync_tally (sector_part xs k))
   sums_next s t n m r hn hm q a =
-      let z = a ∙ ap (add_sector s) (q ∙ ap (λ (x : List ℕ). sector_answer x n m) e ∙ part-answer≡tallies xs whole k n m hk hn hm) in (
+      let z = a ∙ ap (add_sector s) (q ∙ ap (λ (x : List ℕ). sector_answer x n m) e ∙ part_answer≡tallies xs whole k n m hk hn hm) in (
         ap (λ (x : Sums). x.unknown) z ∙ ap (λ (x : ℕ). s.unknown + x) (small (unknown_tally (sector_part xs k)) sector_size (unknown_le (sector_part xs k)) (omega arith)),
         ap (λ (x : Sums). x.sync) z ∙ ap (λ (x : ℕ). s.sync + x) (small (sync_tally (sector_part xs k)) 26 (sync-le (sector_part xs k)) (omega arith)),
       )

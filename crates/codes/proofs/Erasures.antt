@@ -51,9 +51,9 @@ distance_errors m w c d k l =
     (λ i. not (is_erased m i) && not (eqb (get_or w i 0) (get_or d i 0))) (is_erased m) 0 (length w)
     (λ i. differ_three (is_erased m i) (get_or w i 0) (get_or c i 0) (get_or d i 0)))
 
-pub errors-self≡0 : (m w : List ℕ) → error_count m w w ≡ 0
+pub errors_self≡0 : (m w : List ℕ) → error_count m w w ≡ 0
 unfolding error_count
-errors-self≡0 m w =
+errors_self≡0 m w =
     count_none (λ i. not (is_erased m i) && not (eqb (get_or w i 0) (get_or w i 0))) 0 (length w)
     (λ i l. rw (eq-eqb (get_or w (0 + i) 0) (get_or w (0 + i) 0) refl) (and_nothing (not (is_erased m (0 + i)))))
   where
@@ -124,7 +124,7 @@ module _ (p : ℕ) (m w : List ℕ) (hw : Bytes w) where
 
     -- a code word with at most p marks
     pub self_within : IsCode p w → erasure_count m (length w) ≤ p → Within p m w w
-    self_within h l = record { bytes = hw; len = refl; code = h; close = omega (arith, errors-self≡0 m w) }
+    self_within h l = record { bytes = hw; len = refl; code = h; close = omega (arith, errors_self≡0 m w) }
 
   -- ---- what becomes of a word
 

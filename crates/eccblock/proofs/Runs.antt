@@ -1,5 +1,5 @@
 -- Blocks of a run: accepted_any (each is accepted alone too), run_length_fits (the first numbers grow by 16 a block, so that a run has at most 16,777,216 sectors),
--- zero-after-the-highest≡10 (the sum does not wrap).
+-- zero_after_the_highest≡10 (the sum does not wrap).
 -- Assumes nothing.
 use mathlib.Core.Path.{◌≡◌, refl, sym, ◌∙◌}
 use mathlib.Core.List.{List, [], ◌∷◌}
@@ -39,6 +39,6 @@ run_length_fits [] ok = omega arith
 run_length_fits (i ∷ is) (ok, oks) = omega (arith, after_fits i.first is (accepted_facts i.main i.first i.info ok).small oks)
 
 -- 4,294,967,280 plus 16 is 2^32, and not 0
-pub zero-after-the-highest≡10 : encode_refusal (First 4294967280) main_size block_size 0 0 ≡ 10
+pub zero_after_the_highest≡10 : encode_refusal (First 4294967280) main_size block_size 0 0 ≡ 10
 unfolding encode_refusal
-zero-after-the-highest≡10 = refl
+zero_after_the_highest≡10 = refl

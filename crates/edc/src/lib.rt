@@ -51,7 +51,7 @@ fn edc_number(table: &[u32; 1024], xs: &[u8]) -> u32
 }
 
 // A remainder as bytes, the most significant first.
-fn four_bytes_lem(r: u32) -> [u8; 4]
+fn four_bytes(r: u32) -> [u8; 4]
     ensures { result ≡ four_bytes r }
 {
     [
@@ -68,7 +68,7 @@ pub fn edc(table: &[u32; 1024], xs: &[u8]) -> [u8; 4]
     requires xs_len { length xs.now % 4 ≡ 0 }
     ensures { result ≡ edc_of xs.now }
 {
-    four_bytes_lem(edc_number(table, xs))
+    four_bytes(edc_number(table, xs))
 }
 
 // Entry 256 k + h is what the byte h and k bytes ZERO after it leave from the remainder 0. The one entry in decimal is that of the byte 1: x^31 + x^4 + 1.

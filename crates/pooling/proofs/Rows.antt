@@ -69,9 +69,9 @@ module _ (p : ℕ) (c : List ℕ) (a b : MarkedBytes) (la : length a.bytes ≡ l
       below_at (length c) (λ i. is_right c a i || is_right c b i) (and_left (is_covered c a b) _ ok) i l
 
   -- no unmarked byte of the pooled word is wrong,
-  pub pooled-errors≡0 : wrong_in c (pooled a b) ≡ 0
+  pub pooled_errors≡0 : wrong_in c (pooled a b) ≡ 0
   unfolding error_count
-  pooled-errors≡0 =
+  pooled_errors≡0 =
       count_none (λ i. not (marked_at (pooled a b) i) && not (eqb (byte_at (pooled a b) i) (get_or c i 0))) 0 (length (pooled a b).bytes)
       (λ i l.
       let j : 0 + i < length a.bytes = omega (arith, pooled-length a b) in
@@ -79,9 +79,9 @@ module _ (p : ℕ) (c : List ℕ) (a b : MarkedBytes) (la : length a.bytes ≡ l
       (pooled_right (marked_at a (0 + i)) (byte_at a (0 + i)) (marked_at b (0 + i)) (byte_at b (0 + i)) (get_or c (0 + i) 0) (covered (0 + i) (omega (arith, la)))))
 
   -- and as many are marked as the two readings have unmarked wrong ones, at most
-  pub pooled-erasures≤wrong : erasure_count (pooled a b).erasures (length c) ≤ wrong_in c a + wrong_in c b
+  pub pooled_erasures≤wrong : erasure_count (pooled a b).erasures (length c) ≤ wrong_in c a + wrong_in c b
   unfolding erasure_count error_count
-  pooled-erasures≤wrong =
+  pooled_erasures≤wrong =
       rw (la, lb)
       (count-sum (is_erased (pooled a b).erasures) (λ i. not (marked_at a i) && not (eqb (byte_at a i) (get_or c i 0))) (λ i. not (marked_at b i) && not (eqb (byte_at b i) (get_or c i 0))) 0 (length c)
       (λ i l.
@@ -93,7 +93,7 @@ module _ (p : ℕ) (c : List ℕ) (a b : MarkedBytes) (la : length a.bytes ≡ l
   pub pooled_load : 2 * wrong_in c (pooled a b) + erasure_count (pooled a b).erasures (length c) ≤ p
   pooled_load =
       let few = leb→le _ p (and_right (is_covered c a b) _ ok) in
-      omega (arith, pooled-errors≡0, pooled-erasures≤wrong, few)
+      omega (arith, pooled_errors≡0, pooled_erasures≤wrong, few)
 
   -- THE ROW THEOREM
   pub pooled_comes_back : length c ≤ 255 → Bytes c → Bytes a.bytes → Bytes b.bytes → IsCode p c → nearest_erased p (pooled a b).erasures (pooled a b).bytes ≡ c

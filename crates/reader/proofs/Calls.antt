@@ -1,6 +1,6 @@
--- Laws of the calls: of a block's stream of 77,380 bytes no sector is refused (part_fits, part-answer≡tallies, call-answer≡tallies, call-number≡0), and the
--- sixteen buffers of bytes, and of marks, are what is read of the block (call-bytes≡read-sector, call-erasures≡erasures-of-sector, block_bytes_lem≡read_block_lem,
--- block-erasures≡erasures-of-block).
+-- Laws of the calls: of a block's stream of 77,380 bytes no sector is refused (part_fits, part_answer≡tallies, call_answer≡tallies, call_number≡0), and the
+-- sixteen buffers of bytes, and of marks, are what is read of the block (call_bytes≡read_sector, call_erasures≡erasures_of_sector, block_bytes≡read_block,
+-- block_erasures≡erasures_of_block).
 -- Assumes nothing.
 use mathlib.Core.Path.{◌≡◌, refl, sym, ap, ap₂, ◌≡⟨◌⟩◌, ◌∎}
 use mathlib.Core.Bool.{true}
@@ -32,12 +32,12 @@ module _ (f : List ℕ → List ℕ) (xs : List ℕ) where
       ≡⟨ append_assoc first (each_sector f xs (suc k) n) (f (sector_part xs m)) ⟩ first ++ (each_sector f xs (suc k) n ++ f (sector_part xs m))
       ≡⟨ ap (λ (r : List ℕ). first ++ r) (each_sector_suc n (suc k) m (omega arith)) ⟩ first ++ each_sector f xs (suc k) (suc n) ∎
 
-  joined≡each_sector_lem : (g : ℕ → List ℕ) (n : ℕ) → ((k : ℕ) → k < n → g k ≡ f (sector_part xs k)) → joined g n ≡ each_sector f xs 0 n
+  joined≡each_sector : (g : ℕ → List ℕ) (n : ℕ) → ((k : ℕ) → k < n → g k ≡ f (sector_part xs k)) → joined g n ≡ each_sector f xs 0 n
   unfolding joined
-  joined≡each_sector_lem g zero h = unfold each_sector in refl
-  joined≡each_sector_lem g (suc n) h =
+  joined≡each_sector g zero h = unfold each_sector in refl
+  joined≡each_sector g (suc n) h =
       joined g n ++ g n
-      ≡⟨ ap₂ ◌++◌ (joined≡each_sector_lem g n (λ k l. h k (omega arith))) (h n (omega arith)) ⟩ each_sector f xs 0 n ++ f (sector_part xs n)
+      ≡⟨ ap₂ ◌++◌ (joined≡each_sector g n (λ k l. h k (omega arith))) (h n (omega arith)) ⟩ each_sector f xs 0 n ++ f (sector_part xs n)
       ≡⟨ each_sector_suc n 0 n (omega arith) ⟩ each_sector f xs 0 (suc n) ∎
 
 -- sector k of a block's stream, with buffers of n and m bytes
@@ -49,35 +49,35 @@ module _ (xs : List ℕ) (whole : length xs ≡ stream_size) (k n m : ℕ) (h : 
   part_fits = fits (sector_part xs k) n m part_length hn hm
 
   -- a sector is not refused: the answer has its two tallies
-  pub part-answer≡tallies : sector_answer (sector_part xs k) n m ≡ Sector (unknown_tally (sector_part xs k)) (sync_tally (sector_part xs k))
+  pub part_answer≡tallies : sector_answer (sector_part xs k) n m ≡ Sector (unknown_tally (sector_part xs k)) (sync_tally (sector_part xs k))
   unfolding sector_answer
-  part-answer≡tallies = rw part_fits
+  part_answer≡tallies = rw part_fits
 
 module _ (xs : List ℕ) (b : Buffers) (whole : length xs ≡ stream_size) (lent : Lent b) where
   call_fits : (k : ℕ) → k < sector_count → sector_fits (sector_part xs k) (length (b.bytes k)) (length (b.erasures k)) ≡ true
   call_fits k h = part_fits xs whole k (length (b.bytes k)) (length (b.erasures k)) h (lent.bytes-sized k h) (lent.erasures-sized k h)
 
   -- each call answers with the two tallies of its sector,
-  pub call-answer≡tallies : (k : ℕ) → k < sector_count → call_answer xs b k ≡ Sector (unknown_tally (sector_part xs k)) (sync_tally (sector_part xs k))
-  call-answer≡tallies k h =
-      part-answer≡tallies xs whole k (length (b.bytes k)) (length (b.erasures k)) h (lent.bytes-sized k h) (lent.erasures-sized k h)
+  pub call_answer≡tallies : (k : ℕ) → k < sector_count → call_answer xs b k ≡ Sector (unknown_tally (sector_part xs k)) (sync_tally (sector_part xs k))
+  call_answer≡tallies k h =
+      part_answer≡tallies xs whole k (length (b.bytes k)) (length (b.erasures k)) h (lent.bytes-sized k h) (lent.erasures-sized k h)
 
   -- so that none is refused,
-  pub call-number≡0 : (k : ℕ) → k < sector_count → sector_read_number (call_answer xs b k) ≡ 0
-  call-number≡0 k h = ap sector_read_number (call-answer≡tallies k h)
+  pub call_number≡0 : (k : ℕ) → k < sector_count → sector_read_number (call_answer xs b k) ≡ 0
+  call_number≡0 k h = ap sector_read_number (call_answer≡tallies k h)
 
   -- and leaves the bytes of its sector, and the marks
-  pub call-bytes≡read-sector : (k : ℕ) → k < sector_count → call_bytes xs b k ≡ read_sector (sector_part xs k)
+  pub call_bytes≡read_sector : (k : ℕ) → k < sector_count → call_bytes xs b k ≡ read_sector (sector_part xs k)
   unfolding sector_after
-  call-bytes≡read-sector k h = rw (call_fits k h)
+  call_bytes≡read_sector k h = rw (call_fits k h)
 
-  pub call-erasures≡erasures-of-sector : (k : ℕ) → k < sector_count → call_erasures xs b k ≡ erasures_of_sector (sector_part xs k)
+  pub call_erasures≡erasures_of_sector : (k : ℕ) → k < sector_count → call_erasures xs b k ≡ erasures_of_sector (sector_part xs k)
   unfolding erasures_after
-  call-erasures≡erasures-of-sector k h = rw (call_fits k h)
+  call_erasures≡erasures_of_sector k h = rw (call_fits k h)
 
   -- the block buffer that the repairer gets, and its marks
-  pub block_bytes_lem≡read_block_lem : block_bytes xs b ≡ read_block xs
-  block_bytes_lem≡read_block_lem = joined≡each_sector_lem read_sector xs (call_bytes xs b) sector_count call-bytes≡read-sector
+  pub block_bytes≡read_block : block_bytes xs b ≡ read_block xs
+  block_bytes≡read_block = joined≡each_sector read_sector xs (call_bytes xs b) sector_count call_bytes≡read_sector
 
-  pub block-erasures≡erasures-of-block : block_erasures xs b ≡ erasures_of_block xs
-  block-erasures≡erasures-of-block = joined≡each_sector_lem erasures_of_sector xs (call_erasures xs b) sector_count call-erasures≡erasures-of-sector
+  pub block_erasures≡erasures_of_block : block_erasures xs b ≡ erasures_of_block xs
+  block_erasures≡erasures_of_block = joined≡each_sector erasures_of_sector xs (call_erasures xs b) sector_count call_erasures≡erasures_of_sector

@@ -37,7 +37,7 @@ pub(crate) fn take_out_erased(logs: &[u8; 768], erasures: &[u8], syndromes: &mut
         k -= 1;
         if erasures[i] == 1 {
             let x = field::alpha_power(logs, k);
-            crate::mend::take_out_lem(logs, syndromes, x);
+            crate::mend::take_out(logs, syndromes, x);
         }
         i += 1;
     }

@@ -5,7 +5,7 @@ ghost use Rattle.field.specs.Inner.{LogTable};
 ghost use Rattle.codes.specs.Inner.{at, without, error_value, AllBelow, mended};
 
 // The error with the locator x drops out of the syndromes: each becomes the next one and x times itself.
-pub(crate) fn take_out_lem(logs: &[u8; 768], syndromes: &mut [u8], x: u8)
+pub(crate) fn take_out(logs: &[u8; 768], syndromes: &mut [u8], x: u8)
     requires log_table { LogTable logs.now }
     requires syndromes_nonzero { 0 < length syndromes.old }
     ensures { syndromes.new
@@ -35,7 +35,7 @@ fn error_value(logs: &[u8; 768], syndromes: &[u8], places: &[u8], j: usize, rest
     while l < places.len() {
         if l != j {
             let y = field::alpha_power(logs, places[l]);
-            take_out_lem(logs, rest, y);
+            take_out(logs, rest, y);
             d = field::product(logs, d, x ^ y);
         }
         l += 1;

@@ -57,7 +57,7 @@ use Rattle.channel.proofs.Runs.{run_stream-length}
 use Rattle.channel.proofs.RunZeroRuns.{run_zero_runs}
 use Rattle.reader.specs.Sector.{unknown_tally, sync_tally, sector_read_number}
 use Rattle.reader.specs.Session.{Buffers, Lent, call_answer, block_bytes, block_erasures}
-use Rattle.reader.proofs.Calls.{call-number≡0, block_bytes_lem≡read_block_lem, block-erasures≡erasures-of-block}
+use Rattle.reader.proofs.Calls.{call_number≡0, block_bytes≡read_block, block_erasures≡erasures_of_block}
 use Rattle.repairer.specs.Repair.{tallies_of}
 use Rattle.repairer.specs.Answer.{repair_answer, main_after}
 use Rattle.repairer.specs.declared.Repaired.TheVariants.{Block as RepairedBlock}
@@ -143,9 +143,9 @@ module _ {previous : Previous} (main : List ℕ) (first info : ℕ) (ok : Accept
       let gives = main_back main first info ok rs ms (read_block_length xs) (read_block_bytes xs) near (marks_length xs) (marks_fit_lem xs) in
       record {
         calls = λ b old lent l. record {
-          sectors = call-number≡0 xs b whole lent;
-          answer = rw (block_bytes_lem≡read_block_lem xs b whole lent, block-erasures≡erasures-of-block xs b whole lent, l) answers;
-          main_data = rw (block_bytes_lem≡read_block_lem xs b whole lent, block-erasures≡erasures-of-block xs b whole lent) (gives old l);
+          sectors = call_number≡0 xs b whole lent;
+          answer = rw (block_bytes≡read_block xs b whole lent, block_erasures≡erasures_of_block xs b whole lent, l) answers;
+          main_data = rw (block_bytes≡read_block xs b whole lent, block_erasures≡erasures_of_block xs b whole lent) (gives old l);
         };
         whole_answer = rw (eq-eqb (length xs) stream_size whole, answers);
         whole_main_data = λ old l. rw (eq-eqb (length xs) stream_size whole, eq-eqb (length old) main_size l) (gives old l);

@@ -87,9 +87,9 @@ module _ (main : List ℕ) (first info : ℕ) (ok : Accepted None main first inf
   choices-permitted : T (permitted_run (made ∷ []) choices)
   choices-permitted = run_permitted (running_of start) (made ∷ []) refl
 
-  block-stream≡permitted-stream : block_stream made ≡ permitted_stream made choices
+  block_stream≡permitted_stream : block_stream made ≡ permitted_stream made choices
   unfolding block_stream
-  block-stream≡permitted-stream = run_stream_lem (running_of start) (made ∷ []) refl
+  block_stream≡permitted_stream = run_stream_lem (running_of start) (made ∷ []) refl
 
   stream_back : Back main first (permitted_stream made choices)
   stream_back = record {
@@ -104,5 +104,5 @@ module _ (main : List ℕ) (first info : ℕ) (ok : Accepted None main first inf
   unfolding formatted_buffer format_refusal
   format_back old l = (
     rw (eq-eqb (length old) stream_size l) ok.taken,
-    rw (eq-eqb (length old) stream_size l, ok.taken, block-stream≡permitted-stream) stream_back,
+    rw (eq-eqb (length old) stream_size l, ok.taken, block_stream≡permitted_stream) stream_back,
   )

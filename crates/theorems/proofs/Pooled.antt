@@ -46,7 +46,7 @@ use Rattle.channel.proofs.Rows.{LaidBlock}
 use Rattle.channel.proofs.Sectors.{read_block_lem, erasures_block}
 use Rattle.reader.specs.Sector.{sector_read_number}
 use Rattle.reader.specs.Session.{Buffers, Lent, call_answer, block_bytes, block_erasures}
-use Rattle.reader.proofs.Calls.{call-number≡0, block_bytes_lem≡read_block_lem, block-erasures≡erasures-of-block}
+use Rattle.reader.proofs.Calls.{call_number≡0, block_bytes≡read_block, block_erasures≡erasures_of_block}
 use Rattle.repairer.specs.Repair.{tallies_of}
 use Rattle.repairer.specs.Answer.{repair_answer, main_after}
 use Rattle.repairer.specs.declared.Repaired.TheVariants.{Block}
@@ -192,15 +192,15 @@ module _ {previous : Previous} (main : List ℕ) (first info : ℕ) (ok : Accept
       let w = pooled x z in
       let sx = sized_block xs in
       let sz = sized_block zs in
-      let e : reading_of xs b ≡ x = ap₂ with_marks (block_bytes_lem≡read_block_lem xs b wx lb) (block-erasures≡erasures-of-block xs b wx lb) in
-      let f : reading_of zs d ≡ z = ap₂ with_marks (block_bytes_lem≡read_block_lem zs d wz ld) (block-erasures≡erasures-of-block zs d wz ld) in
+      let e : reading_of xs b ≡ x = ap₂ with_marks (block_bytes≡read_block xs b wx lb) (block_erasures≡erasures_of_block xs b wx lb) in
+      let f : reading_of zs d ≡ z = ap₂ with_marks (block_bytes≡read_block zs d wz ld) (block_erasures≡erasures_of_block zs d wz ld) in
       let left : pool_after (reading_of xs b) (reading_of zs d) ≡ w = ap₂ pool_after e f ∙ pool_after_lem xs zs in
       let near : far_rows w.bytes w.erasures (block main first info) ≤ 8 = omega (arith, far_unpoolable main first info ok x z sx sz, few) in
       let size = both_length main first info ok x z sx sz in
       let bytes = both_bytes main first info ok x z sx sz in
       let marks = both_marks_length main first info ok x z sx sz in
       record {
-        sectors = λ k h. (call-number≡0 xs b wx lb k h, call-number≡0 zs d wz ld k h);
+        sectors = λ k h. (call_number≡0 xs b wx lb k h, call_number≡0 zs d wz ld k h);
         pooling = ap pool_number (ap₂ pool_answer e f ∙ pool_answer_lem xs zs);
         answer =
             subst (λ (v : MarkedBytes). repair_answer v.bytes v.erasures (length old) ≡ Block first (tallies_of v.bytes v.erasures)) (sym left)

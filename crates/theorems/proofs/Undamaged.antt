@@ -23,7 +23,7 @@ use Rattle.codes.specs.declared.Outcome.{Outcome}
 use Rattle.codes.specs.declared.Outcome.TheVariants.{Clean}
 use Rattle.codes.proofs.Words.{code_of_test}
 use Rattle.codes.proofs.Nearest.{outcome_clean}
-use Rattle.codes.proofs.Erasures.{Within, errors-self≡0, within_test, nearest-within, self_within, outcome_clean_within}
+use Rattle.codes.proofs.Erasures.{Within, errors_self≡0, within_test, nearest-within, self_within, outcome_clean_within}
 use Rattle.annexg.specs.Read.{read_word}
 use Rattle.annexg.specs.declared.Reading.{Reading}
 use Rattle.annexg.specs.Sync.{code_for}
@@ -48,7 +48,7 @@ use Rattle.channel.proofs.Undisturbed.{SyncAt, word_known, sync_known}
 use Rattle.reader.specs.Sector.{lost_sync, unknown_tally, sync_tally}
 use Rattle.reader.specs.Session.{Buffers, Lent, call_answer, block_bytes, block_erasures}
 use Rattle.reader.specs.declared.SectorRead.TheVariants.{Sector}
-use Rattle.reader.proofs.Calls.{call-answer≡tallies, block_bytes_lem≡read_block_lem, block-erasures≡erasures-of-block}
+use Rattle.reader.proofs.Calls.{call_answer≡tallies, block_bytes≡read_block, block_erasures≡erasures_of_block}
 use Rattle.repairer.specs.Repair.{rows_repaired, is_corrected, is_uncorrectable, tally_of, tallies_of}
 use Rattle.repairer.specs.Answer.{marks_fit, repair_answer}
 use Rattle.repairer.specs.declared.Tally.{Tally}
@@ -143,18 +143,18 @@ module _ {previous : Previous} (main : List ℕ) (first info : ℕ) (ok : Accept
       ap₂ (λ (r c : Tally). record { rows = r; columns = c }) (no_tally_lem (λ q. outcome_erased 10 (row_of ms q) (row_of made q)) row_count row_clean)
       (ap (λ (ys : List ℕ). tally_of (λ j. outcome_of 16 8 (column_of ys j)) column_count) rows_stay ∙ no_tally_lem (λ j. outcome_of 16 8 (column_of made j)) column_count column_clean)
 
-  far-self≡0 : far_rows made ms made ≡ 0
+  far_self≡0 : far_rows made ms made ≡ 0
   unfolding far_rows
-  far-self≡0 =
+  far_self≡0 =
       count_none (far_row made ms made) 0 row_count
       (λ q l.
       le-ltb 10 (2 * error_count (row_of ms (0 + q)) (row_of made (0 + q)) (row_of made (0 + q)) + erasure_count (row_of ms (0 + q)) row_size)
-      (omega (arith, errors-self≡0 (row_of ms (0 + q)) (row_of made (0 + q)), marks_none (0 + q) (omega arith))))
+      (omega (arith, errors_self≡0 (row_of ms (0 + q)) (row_of made (0 + q)), marks_none (0 + q) (omega arith))))
 
   -- an undamaged block buffer is handed out, and nothing is tallied
   made_handed_out : length ms ≡ block_size → marks_fit ms ≡ true → repair_answer made ms main_size ≡ RepairedBlock first no_tallies
   made_handed_out sized marks =
-      handed_out main first info ok made ms (block_length main first info ok) (block_bytes_lem main first info ok) (omega (arith, far-self≡0)) sized marks
+      handed_out main first info ok made ms (block_length main first info ok) (block_bytes_lem main first info ok) (omega (arith, far_self≡0)) sized marks
       ∙ ap (RepairedBlock first) no_tallies_lem
 
 module _ {previous : Previous} (main : List ℕ) (first info : ℕ) (ok : Accepted previous main first info) where
@@ -214,7 +214,7 @@ module _ {previous : Previous} (main : List ℕ) (first info : ℕ) (ok : Accept
 
     laid_handed_out : HandedOut main first laid
     laid_handed_out =
-        near_handed_out main first info ok laid whole (rw reads_made (omega (arith, far-self≡0 main first info ok (erasures_of_block laid) unmarked)))
+        near_handed_out main first info ok laid whole (rw reads_made (omega (arith, far_self≡0 main first info ok (erasures_of_block laid) unmarked)))
 
     answers : repair_answer (read_block laid) (erasures_of_block laid) main_size ≡ RepairedBlock first no_tallies
     answers =
@@ -226,9 +226,9 @@ module _ {previous : Previous} (main : List ℕ) (first info : ℕ) (ok : Accept
     unfolding block_read_answer block_fits
     undamaged = record {
       read = laid_handed_out;
-      sectors = λ b lent k h. call-answer≡tallies laid b whole lent k h ∙ ap₂ Sector (unknown_none k h) (lost_none k h);
+      sectors = λ b lent k h. call_answer≡tallies laid b whole lent k h ∙ ap₂ Sector (unknown_none k h) (lost_none k h);
       answer = λ b lent.
-          ap₂ (λ (x y : List ℕ). repair_answer x y main_size) (block_bytes_lem≡read_block_lem laid b whole lent) (block-erasures≡erasures-of-block laid b whole lent) ∙ answers;
+          ap₂ (λ (x y : List ℕ). repair_answer x y main_size) (block_bytes≡read_block laid b whole lent) (block_erasures≡erasures_of_block laid b whole lent) ∙ answers;
       whole_answer =
           rw (eq-eqb (length laid) stream_size whole, answers)
           (ap₂ (Block first no_tallies) (sum-none unknown_tally unknown_none 16 0 (omega arith)) (sum-none sync_tally lost_none 16 0 (omega arith)));

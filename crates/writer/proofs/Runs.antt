@@ -310,10 +310,10 @@ run_taken run outs end some more hr ho l =
     subst (λ (way : Way). RunWritten way run outs end) (sym trial_and_take) (run_written run outs end some more hr ho l)
 
 -- the State after closing is 1
-pub run-closed-state≡1 : (r : Running) (run : List (List ℕ)) → (run_of r run).running.state ≡ 1
+pub run_closed_state≡1 : (r : Running) (run : List (List ℕ)) → (run_of r run).running.state ≡ 1
 unfolding run_of
-run-closed-state≡1 r [] = closing_state r
-run-closed-state≡1 r (b ∷ run) = run-closed-state≡1 (sectors_of r b sector_count).running run
+run_closed_state≡1 r [] = closing_state r
+run_closed_state≡1 r (b ∷ run) = run_closed_state≡1 (sectors_of r b sector_count).running run
 
 -- ---- the sectors of a block in the parts of one buffer
 

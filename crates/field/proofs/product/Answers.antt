@@ -1,5 +1,6 @@
 -- `field::product` meets its contract: 0 where a factor is 0, and else the power of α at the sum of the logarithms. Assumes nothing.
-use mathlib.Core.Path.{sym, ap, ◌∙◌}
+use mathlib.Core.Path.{◌≡◌, sym, ap, ◌∙◌}
+use mathlib.Core.List.{List}
 use Prim.Native.Nat.{ℕ, ◌+◌, ◌<◌}
 use native.Mathlib.Omega.{arith}
 use lib.ListN.{get_or}
@@ -7,9 +8,7 @@ use borrow.Author.Rules.{rules}
 use Rattle.field.specs.Field.{mul}
 use Rattle.field.proofs.Field.{zero-mul, mul-zero}
 use Rattle.field.proofs.Tables.{log-lt, product_log}
-use Rattle.field.proofs.product.Reads as reads
-use Rattle.field.proofs.product.Lts as lts
-use Rattle.octets.proofs.index.Reads as index_Reads
+use Rattle.field.specs.Inner.{LogTable}
 use Rattle.field.proofs.product.Goals as goal
 
 pub returns-then-a-eq0 : goal.returns-then-a-eq0
@@ -18,34 +17,35 @@ returns-then-a-eq0 c = sym (ap (λ (x : ℕ). mul x c.args.b) c.if-a-eq0.true �
 pub returns-then-b-eq0 : goal.returns-then-b-eq0
 returns-then-b-eq0 c = sym (ap (mul c.args.a) c.if-b-eq0.true ∙ mul-zero c.args.a)
 
-abbrev At : Type 0
-At = lts.After-index4 (index_Reads.Asked, index_Reads.Learnt) reads.Pre reads.Post
-
 -- two logarithms are indices of one power
-small : (c : At) → c.before.before.before.index2.result + c.index4.result < 512
-small c =
-    let second = c.before.before in
-    let first = second.before in
-    let looked = first.before.before in
-    let neither = looked.before in
-    let start = neither.before.before in
-    let a = start.args in
-    omega (
-      arith,
-      log-lt a.logs.now start.requires a.a first.index2.result neither.before.if1.false (omega arith)
-          (first.index2.ensures ∙ ap (λ (x : ℕ). get_or a.logs.now x 0) looked.index.ensures),
-      log-lt a.logs.now start.requires a.b c.index4.result neither.if2.false (omega arith)
-          (c.index4.ensures ∙ ap (λ (x : ℕ). get_or a.logs.now x 0) second.index3.ensures),
-    )
+small :
+    (logs : List ℕ) → LogTable logs → (a b i j : ℕ) → (a ≡ 0 → ⊥) → (b ≡ 0 → ⊥) → a < 256 → b < 256 → i ≡ get_or logs a 0 → j ≡ get_or logs b 0
+    → i + j < 512
+small logs table a b i j ha hb la lb ei ej = omega (arith, log-lt logs table a i ha la ei, log-lt logs table b j hb lb ej)
 
 pub overflow_add-result : goal.overflow_add-result
-overflow_add-result c = omega (arith, small c)
+overflow_add-result c =
+    omega (
+      arith,
+      small c.args.logs.now c.requires c.args.a c.args.b c.index-i.result c.index-j.result c.if-a-eq0.false c.if-b-eq0.false (omega arith) (omega arith)
+          (c.index-i.ensures ∙ ap (λ (x : ℕ). get_or c.args.logs.now x 0) c.index.ensures) (c.index-j.ensures ∙ ap (λ (x : ℕ). get_or c.args.logs.now x 0) c.index-2.ensures),
+    )
 
 pub overflow_add-result-2 : goal.overflow_add-result-2
-overflow_add-result-2 c = omega (arith, small c)
+overflow_add-result-2 c =
+    omega (
+      arith,
+      small c.args.logs.now c.requires c.args.a c.args.b c.index-i.result c.index-j.result c.if-a-eq0.false c.if-b-eq0.false (omega arith) (omega arith)
+          (c.index-i.ensures ∙ ap (λ (x : ℕ). get_or c.args.logs.now x 0) c.index.ensures) (c.index-j.ensures ∙ ap (λ (x : ℕ). get_or c.args.logs.now x 0) c.index-2.ensures),
+    )
 
 pub bounds-logs-i : goal.bounds-logs-i
-bounds-logs-i c = omega (arith, small c)
+bounds-logs-i c =
+    omega (
+      arith,
+      small c.args.logs.now c.requires c.args.a c.args.b c.index-i.result c.index-j.result c.if-a-eq0.false c.if-b-eq0.false (omega arith) (omega arith)
+          (c.index-i.ensures ∙ ap (λ (x : ℕ). get_or c.args.logs.now x 0) c.index.ensures) (c.index-j.ensures ∙ ap (λ (x : ℕ). get_or c.args.logs.now x 0) c.index-2.ensures),
+    )
 
 pub returns : goal.returns
 returns c = let a = c.args in

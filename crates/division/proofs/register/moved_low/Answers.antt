@@ -1,0 +1,9 @@
+-- `register::moved_low` meets its contract. Assumes nothing.
+use mathlib.Core.Path.{refl}
+use borrow.Author.Rules.{rules}
+use Rattle.field.specs.Field.{add}
+use Rattle.division.proofs.register.moved_low.Goals as goal
+
+pub returns : goal.returns
+unfolding add
+returns c = refl

@@ -1,0 +1,13 @@
+-- `register::shift_row` meets its contract. Assumes nothing.
+use mathlib.Core.Path.{refl}
+use Prim.Native.Nat.{◌+◌, ◌*◌, ◌-◌, ◌≤◌}
+use native.Mathlib.Omega.{arith}
+use lib.ListN.{length, get_or, length-set}
+use Rattle.division.proofs.Division.{Shifting, shifting_none, shifting_more, shifting_all}
+use Rattle.division.proofs.register.shift_row.Given as goal
+
+abbrev pub invariant-loop-j : goal.invariant-loop-j
+invariant-loop-j l = (l.j ≤ length l.row) × Shifting l.row l.initial.regs l.regs l.j
+
+abbrev pub decreases-loop-j : goal.decreases-loop-j
+decreases-loop-j l = length l.row - l.j
