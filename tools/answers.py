@@ -266,6 +266,9 @@ def as_record(body, fields):
         parts = split_top(t[1:-1])
         while len(parts) < len(fields) and parts[-1].startswith("(") and matching(parts[-1], 0) == len(parts[-1]) - 1:
             parts = parts[:-1] + split_top(parts[-1][1:-1])
+        if len(parts) < len(fields):  # the last part is a lemma that gives the clauses that are left
+            more = len(fields) - len(parts) + 1
+            parts = parts[:-1] + [f"({parts[-1]})" + ".1" * k + ".0" * (k < more - 1) for k in range(more)]
         if len(parts) == len(fields):
             return lets + rec(parts)
     if re.match(r"record |elim |⊎-elim|search |grind ", t):
