@@ -1,6 +1,5 @@
 -- `formulas::equations_determinant` meets its contract. Assumes nothing.
 use mathlib.Core.Path.{ap₂}
-use borrow.Author.Rules.{rules}
 use Rattle.field.specs.Field.{add}
 use Rattle.lightrepair.proofs.formulas.equations_determinant.Goals as goal
 

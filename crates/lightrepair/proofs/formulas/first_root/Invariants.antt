@@ -1,13 +1,8 @@
 -- `formulas::first_root` meets its contract: no place before k has a root for its locator. Assumes nothing.
-use mathlib.Core.Path.{◌≡◌, sym, ap, ◌∙◌}
+use mathlib.Core.Path.{◌≡◌}
 use mathlib.Core.Bool.{false}
-use mathlib.Core.Logic.{dite}
 use Prim.Native.Nat.{ℕ, ◌-◌, ◌<◌, ◌≤◌}
-use native.Mathlib.Decide.{ℕ_discrete}
-use native.Mathlib.Omega.{arith}
-use borrow.Author.Rules.{rules}
-use borrow.Author.Tests.{eq-eqb, ne_eqb}
-use Rattle.field.specs.Field.{add, mul, pow}
+use Rattle.field.specs.Field.{pow}
 use Rattle.codes.specs.Inner.{is_locator}
 use Rattle.layout.specs.Lengths.{row_size}
 use Rattle.lightrepair.proofs.formulas.first_root.Given as goal

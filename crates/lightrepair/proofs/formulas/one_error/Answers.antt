@@ -3,12 +3,7 @@ use mathlib.Core.Path.{sym, ap, subst, ◌∙◌}
 use mathlib.Core.Bool.{false≢true}
 use Prim.Native.Nat.{ℕ, ◌<◌}
 use native.Mathlib.Omega.{arith}
-use lib.ListN.{get_or}
-use mir.Val.{Fits}
-use mir.Syntax.{w8}
 use borrow.Author.Rules.{rules}
-use borrow.Author.Tests.{not-true, not-false}
-use Rattle.lists.proofs.Bytes.{bytes_of, get_or-byte}
 use Rattle.field.proofs.Tables.{same_logarithm}
 use Rattle.codes.specs.Inner.{at, follows}
 use Rattle.codes.proofs.Formulas.{over_nonzero, one_explains}

@@ -1,12 +1,9 @@
 -- `formulas::sums_follow` meets its contract: the sums before i + 2 follow. Assumes nothing.
-use mathlib.Core.Path.{◌≡◌, sym, ap₂, ◌∙◌}
+use mathlib.Core.Path.{sym, ap₂, ◌∙◌}
 use mathlib.Core.Logic.{dite}
-use Prim.Native.Nat.{ℕ, ◌+◌, ◌-◌, ◌<◌, ◌≤◌}
 use native.Mathlib.Decide.{ℕ_discrete}
 use native.Mathlib.Omega.{arith}
-use borrow.Author.Rules.{rules}
-use lib.ListN.{get_or}
-use Rattle.field.specs.Field.{add, mul}
+use Rattle.field.specs.Field.{add}
 use Rattle.codes.specs.Inner.{at}
 use Rattle.codes.proofs.Formulas.{follows_true, follows_false}
 use Rattle.layout.specs.Lengths.{inner_size}

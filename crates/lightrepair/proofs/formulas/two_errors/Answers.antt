@@ -2,8 +2,6 @@
 use mathlib.Core.Path.{sym, ap₂, ◌∙◌}
 use mathlib.Core.Bool.{false≢true}
 use native.Mathlib.Omega.{arith}
-use borrow.Author.Rules.{rules}
-use borrow.Author.Tests.{not-true, not-false}
 use Rattle.codes.specs.Inner.{at, follows}
 use Rattle.layout.specs.Lengths.{row_size, inner_size}
 use Rattle.lightrepair.proofs.Found.{found_weaker, no_two}

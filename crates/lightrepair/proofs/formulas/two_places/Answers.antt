@@ -3,12 +3,8 @@ use mathlib.Core.Path.{◌≡◌, sym, ap, ap₂, ◌∙◌}
 use mathlib.Core.Bool.{false≢true}
 use Prim.Native.Nat.{ℕ, ◌<◌}
 use native.Mathlib.Omega.{arith}
-use lib.ListN.{get_or}
-use mir.Val.{Fits}
-use mir.Syntax.{w8}
 use borrow.Author.Rules.{rules}
 use borrow.Author.Tests.{eq-eqb, eqb-true}
-use Rattle.lists.proofs.Bytes.{bytes_of, get_or-byte}
 use Rattle.field.specs.Field.{add, mul, pow, inverse}
 use Rattle.field.proofs.Field.{add_cancel}
 use Rattle.codes.specs.Inner.{at, is_locator}
@@ -31,11 +27,10 @@ returns-then-index-ge-ROW_SIZE c =
 
 pub logarithm-other-requires : goal.logarithm-other-requires
 unfolding add
-logarithm-other-requires c =
-    (
-      c.requires.0,
-      other_nonzero c.args.a c.args.b c.alpha_power-x.result (ap (λ (x : ℕ). mul x (add x c.args.a)) c.alpha_power-x.ensures ∙ root c.args.a c.args.b c.first_root-place.result c.first_root-place.ensures (omega arith)) c.requires.2,
-    )
+logarithm-other-requires c = (
+  c.requires.0,
+  other_nonzero c.args.a c.args.b c.alpha_power-x.result (ap (λ (x : ℕ). mul x (add x c.args.a)) c.alpha_power-x.ensures ∙ root c.args.a c.args.b c.first_root-place.result c.first_root-place.ensures (omega arith)) c.requires.2,
+)
 
 pub returns-then-index-ge-ROW_SIZE-2 : goal.returns-then-index-ge-ROW_SIZE-2
 unfolding add
