@@ -1,0 +1,17 @@
+-- `mend::mend` meets its contract. Assumes nothing.
+use mathlib.Core.Path.{◌≡◌, refl, sym, ap, ap₂, ◌∙◌}
+use mathlib.Core.List.{List}
+use Prim.Native.Nat.{ℕ, suc, ◌+◌, ◌-◌, ◌<◌, ◌≤◌}
+use lib.ListN.{length, get_or, set, length-set}
+use Rattle.field.specs.Field.{add}
+use Rattle.codes.specs.Inner.{at, change, mend_from, mended}
+use Rattle.reedsolomon.proofs.Loops.{mend_next, mend_end}
+use native.Mathlib.Omega.{arith}
+use borrow.Author.Rules.{rules}
+use Rattle.reedsolomon.proofs.mend.mend.Given as goal
+
+abbrev pub invariant-loop-j : goal.invariant-loop-j
+invariant-loop-j l = (l.j ≤ length l.places) × (length l.word ≡ length l.initial.word) × (length l.rest ≡ length l.initial.rest) × (mend_from (at l.syndromes) l.places l.j (length l.places - l.j) l.word ≡ mended (at l.syndromes) l.places l.initial.word)
+
+abbrev pub decreases-loop-j : goal.decreases-loop-j
+decreases-loop-j l = length l.places - l.j
