@@ -1,7 +1,5 @@
 -- `erasures::count_erasures` meets its contract: the marked bytes before i are counted. Assumes nothing.
 use mathlib.Core.Path.{◌≡◌, refl, ap, ◌∙◌}
-use mathlib.Core.Logic.{⊎_elim}
-use Prim.Native.Nat.{◌-◌, ◌≤◌}
 use native.Mathlib.Omega.{arith}
 use borrow.Author.Tests.{eq-eqb, ne_eqb}
 use lib.ListN.{length, get_or}
@@ -25,7 +23,7 @@ loop-i-preserved c =
     let i = c.loop-i.i in
     let more = count_snoc (is_erased m) i in
     elim c.if-erasures-i-eq1.branch [
-      then-erasures-i-eq1 marked ↦ (
+      | then-erasures-i-eq1 marked ↦ (
         omega arith,
         omega (arith, marked.count-is, c.loop-i.invariant.1, more, ap bit (eq-eqb (get_or m i 0) 1 marked.if-erasures-i-eq1.true)),
       )

@@ -1,12 +1,8 @@
 -- `locate::add_multiple` meets its contract. Assumes nothing.
-use mathlib.Core.Path.{◌≡◌, refl, sym, ap₂, ◌∙◌}
 use Prim.Native.Nat.{◌-◌, ◌≤◌}
 use lib.ListN.{length, get_or}
-use Rattle.field.specs.Field.{add}
-use Rattle.lists.proofs.Fill.{Upto, upto_none, upto_more, upto_all, tabulate_self}
+use Rattle.lists.proofs.Fill.{Upto}
 use Rattle.codes.specs.Inner.{mix}
-use Rattle.codes.proofs.Elimination.{mix-length, mix-at}
-use native.Mathlib.Omega.{arith}
 use Rattle.reedsolomon.proofs.locate.add_multiple.Given as goal
 
 abbrev pub invariant-loop-j : goal.invariant-loop-j

@@ -1,13 +1,12 @@
 -- `locate::clear_equation` meets its contract. Assumes nothing.
 use mathlib.Core.Path.{sym, ap, ap₂, ◌∙◌, subst}
 use mathlib.Core.List.{List}
-use Prim.Native.Nat.{ℕ, ◌+◌, ◌-◌}
+use Prim.Native.Nat.{ℕ, ◌+◌}
 use lib.ListN.{length}
 use Rattle.field.specs.Field.{mul, inverse}
 use mathlib.Core.Bool.{true}
 use Rattle.codes.specs.Inner.{at, Cleared}
 use Rattle.codes.proofs.Elimination.{cleared_holds, cleared_kept, cleared_mixed}
-use borrow.Author.Rules.{rules}
 use Rattle.reedsolomon.proofs.locate.clear_equation.Goals as goal
 
 pub returns-then-d-eq0 : goal.returns-then-d-eq0

@@ -1,10 +1,9 @@
 -- `locate::clear_equations` meets its contract. Assumes nothing.
 use mathlib.Core.Path.{◌≡◌, refl, sym, ap, ◌∙◌, subst}
-use Prim.Native.Nat.{ℕ, ◌-◌, ◌*◌, ◌<◌, ◌≤◌}
+use Prim.Native.Nat.{ℕ, ◌-◌, ◌*◌, ◌<◌}
 use lib.ListN.{length}
 use mathlib.Core.Bool.{true≢false, false≢true}
-use borrow.Author.Tests.{not-true, not-false}
-use Rattle.codes.specs.Inner.{at, Pivots, Candidate}
+use Rattle.codes.specs.Inner.{at, Candidate}
 use Rattle.codes.proofs.Elimination.{fits_part, cleared_next}
 use native.Mathlib.Omega.{arith}
 use Rattle.reedsolomon.proofs.locate.clear_equations.Goals as goal
@@ -38,15 +37,14 @@ overflow_add-a c =
     omega (arith, fits_part c.loop-i.i (length c.args.candidate.now - 1) (length c.args.candidate.now) h, c.loop-i.invariant.1, c.requires.2)
 
 pub loop-i-preserved : goal.loop-i-preserved
-loop-i-preserved c =
-    (
-      omega arith,
-      omega (arith, c.loop-i.invariant.1),
-      c.clear_equation.auto.candidate ∙ c.loop-i.invariant.2,
-      c.clear_equation.auto.pivots ∙ c.loop-i.invariant.3,
-      λ k p q. (cleared_next (at c.args.syndromes.now) (length c.args.candidate.now - 1) (length c.args.candidate.now) k c.loop-i.i c.args.pivots.now c.loop-i.pivots _ c.loop-i.candidate _ _ c.loop-i.invariant.2
-          c.clear_equation.ensures (omega arith) (c.loop-i.invariant.4 k p q) p).goes c.if-not-clear_equation.false,
-    )
+loop-i-preserved c = (
+  omega arith,
+  omega (arith, c.loop-i.invariant.1),
+  c.clear_equation.auto.candidate ∙ c.loop-i.invariant.2,
+  c.clear_equation.auto.pivots ∙ c.loop-i.invariant.3,
+  λ k p q. (cleared_next (at c.args.syndromes.now) (length c.args.candidate.now - 1) (length c.args.candidate.now) k c.loop-i.i c.args.pivots.now c.loop-i.pivots _ c.loop-i.candidate _ _ c.loop-i.invariant.2
+      c.clear_equation.ensures (omega arith) (c.loop-i.invariant.4 k p q) p).goes c.if-not-clear_equation.false,
+)
 
 pub shape_of-pivots : goal.shape_of-pivots
 shape_of-pivots c = c.loop-i.invariant.3

@@ -1,9 +1,7 @@
 -- `locate::equation` meets its contract. Assumes nothing.
-use mathlib.Core.Path.{◌≡◌, sym, ◌∙◌}
-use Prim.Native.Nat.{◌+◌, ◌-◌, ◌≤◌}
-use lib.ListN.{length, drop}
+use mathlib.Core.Path.{sym, ◌∙◌}
 use Rattle.field.specs.Field.{add}
-use Rattle.codes.specs.Inner.{at, dot}
+use Rattle.codes.specs.Inner.{at}
 use Rattle.reedsolomon.proofs.Loops.{dot_start, dot_next, dot_end}
 use native.Mathlib.Omega.{arith}
 use Rattle.reedsolomon.proofs.locate.equation.Goals as goal

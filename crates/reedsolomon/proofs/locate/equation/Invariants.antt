@@ -1,11 +1,9 @@
 -- `locate::equation` meets its contract. Assumes nothing.
-use mathlib.Core.Path.{◌≡◌, sym, ◌∙◌}
+use mathlib.Core.Path.{◌≡◌}
 use Prim.Native.Nat.{◌+◌, ◌-◌, ◌≤◌}
 use lib.ListN.{length, drop}
 use Rattle.field.specs.Field.{add}
 use Rattle.codes.specs.Inner.{at, dot}
-use Rattle.reedsolomon.proofs.Loops.{dot_start, dot_next, dot_end}
-use native.Mathlib.Omega.{arith}
 use Rattle.reedsolomon.proofs.locate.equation.Given as goal
 
 abbrev pub invariant-loop-j : goal.invariant-loop-j

@@ -1,11 +1,10 @@
 -- `locate::locate` meets its contract: some power of x becomes a locator, since there are fewer equations than powers. Assumes nothing.
-use mathlib.Core.Path.{◌≡◌, refl, sym, ap, ◌∙◌}
-use Prim.Native.Nat.{ℕ, ◌-◌, ◌*◌, ◌<◌, ◌≤◌}
+use mathlib.Core.Path.{refl, sym, ap, ◌∙◌}
+use Prim.Native.Nat.{ℕ, ◌-◌, ◌*◌, ◌<◌}
 use lib.ListN.{length, length-replicate}
-use Rattle.codes.specs.Inner.{at, unit, Pivots}
+use Rattle.codes.specs.Inner.{at, unit}
 use Rattle.codes.proofs.Elimination.{pivots_none, pivots_few, reduced, locates}
 use native.Mathlib.Omega.{arith}
-use borrow.Author.Rules.{rules}
 use Rattle.reedsolomon.proofs.locate.locate.Goals as goal
 
 pub loop-k-init : goal.loop-k-init
@@ -33,13 +32,12 @@ returns-then-clear_equations c =
     }
 
 pub loop-k-preserved : goal.loop-k-preserved
-loop-k-preserved c =
-    (
-      omega arith,
-      c.clear_equations.auto.candidate ∙ c.set_unit.auto.candidate ∙ c.loop-k.invariant.1,
-      (reduced (at c.args.syndromes.now) (length c.args.locator.now) c.loop-k.k c.loop-k.pivots _ _ _ _ (c.set_unit.ensures ∙ ap (λ (n : ℕ). unit n c.loop-k.k) c.loop-k.invariant.1) (omega arith)
-          c.clear_equations.ensures c.loop-k.invariant.2).stops c.if-clear_equations.false,
-    )
+loop-k-preserved c = (
+  omega arith,
+  c.clear_equations.auto.candidate ∙ c.set_unit.auto.candidate ∙ c.loop-k.invariant.1,
+  (reduced (at c.args.syndromes.now) (length c.args.locator.now) c.loop-k.k c.loop-k.pivots _ _ _ _ (c.set_unit.ensures ∙ ap (λ (n : ℕ). unit n c.loop-k.k) c.loop-k.invariant.1) (omega arith)
+      c.clear_equations.ensures c.loop-k.invariant.2).stops c.if-clear_equations.false,
+)
 
 pub shape_of-pivots : goal.shape_of-pivots
 shape_of-pivots c = c.loop-k.invariant.2.size ∙ sym (ap length c.requires.2 ∙ length-replicate ((length c.args.locator.now - 1) * length c.args.locator.now) 0)

@@ -1,11 +1,8 @@
 -- `locate::locate` meets its contract: some power of x becomes a locator, since there are fewer equations than powers. Assumes nothing.
-use mathlib.Core.Path.{◌≡◌, refl, sym, ap, ◌∙◌}
-use Prim.Native.Nat.{ℕ, ◌-◌, ◌*◌, ◌<◌, ◌≤◌}
-use lib.ListN.{length, length-replicate}
-use Rattle.codes.specs.Inner.{at, unit, Pivots}
-use Rattle.codes.proofs.Elimination.{pivots_none, pivots_few, reduced, locates}
-use native.Mathlib.Omega.{arith}
-use borrow.Author.Rules.{rules}
+use mathlib.Core.Path.{◌≡◌}
+use Prim.Native.Nat.{◌-◌, ◌≤◌}
+use lib.ListN.{length}
+use Rattle.codes.specs.Inner.{at, Pivots}
 use Rattle.reedsolomon.proofs.locate.locate.Given as goal
 
 abbrev pub invariant-loop-k : goal.invariant-loop-k

@@ -1,13 +1,9 @@
 -- `locate::set_unit` meets its contract. Assumes nothing.
-use mathlib.Core.Path.{◌≡◌, refl, sym, ap, ◌∙◌}
 use Prim.Native.Nat.{◌-◌, ◌≤◌}
 use lib.ListN.{length}
-use mathlib.Core.Logic.{⊎_elim}
-use borrow.Author.Tests.{eq-eqb, ne_eqb}
 use lib.Dec.{eqb}
 use Rattle.lists.specs.Count.{bit}
-use Rattle.lists.proofs.Fill.{Upto, upto_none, upto_more, upto_all}
-use native.Mathlib.Omega.{arith}
+use Rattle.lists.proofs.Fill.{Upto}
 use Rattle.reedsolomon.proofs.locate.set_unit.Given as goal
 
 abbrev pub invariant-loop-j : goal.invariant-loop-j

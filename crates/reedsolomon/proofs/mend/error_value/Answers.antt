@@ -1,10 +1,9 @@
 -- `mend::error_value` meets its contract. Assumes nothing.
 use mathlib.Core.Path.{◌≡◌, refl, sym, ap, ap₂, ◌∙◌}
 use mathlib.Core.List.{List}
-use Prim.Native.Nat.{ℕ, ◌-◌, ◌≤◌}
+use Prim.Native.Nat.{ℕ}
 use lib.ListN.{length}
 use Rattle.field.specs.Field.{add, mul, inverse}
-use mathlib.Core.Logic.{⊎_elim}
 use Rattle.lists.proofs.Fill.{length-tabulate}
 use Rattle.codes.specs.Inner.{at, without_others, spread, error_value}
 use Rattle.reedsolomon.proofs.Loops.{others_skip, spread_skip, spread-take, others_next}
@@ -30,9 +29,9 @@ alpha_power-y-requires c = c.requires.0
 
 pub take_out-requires : goal.take_out-requires
 take_out-requires c = record {
-      log_table = c.requires.0;
-      syndromes_nonzero = omega (arith, c.loop-l.invariant.1, c.requires.1);
-    }
+  log_table = c.requires.0;
+  syndromes_nonzero = omega (arith, c.loop-l.invariant.1, c.requires.1);
+}
 
 pub product-d-requires : goal.product-d-requires
 product-d-requires c = c.requires.0
@@ -42,18 +41,18 @@ unfolding add
 loop-l-preserved c =
     let ks : List ℕ = c.args.places.now in
     elim c.if-l-j.branch [
-    then-l-j w ↦ (
-      omega arith,
-      ap length (w.rest-is ∙ w.take_out.ensures) ∙ length-tabulate _ (length c.loop-l.rest) ∙ c.loop-l.invariant.1,
-      others_next ks c.args.syndromes.now c.loop-l.rest c.if-l-j.rest c.args.j c.loop-l.l _ w.if-l-j.true w.alpha_power-y.ensures (w.rest-is ∙ w.take_out.ensures) c.loop-l.invariant.2,
-      w.d-is ∙ w.product-d.ensures ∙ ap₂ mul c.loop-l.invariant.3 (ap (add c.alpha_power-x.result) w.alpha_power-y.ensures) ∙ sym (spread-take ks c.args.j c.loop-l.l w.if-l-j.true c.alpha_power-x.result),
-    )
-    | else-l-j w ↦ (
-      omega arith,
-      ap length w.rest-is ∙ c.loop-l.invariant.1,
-      (λ i. ap (λ (r : List ℕ). at r i) w.rest-is ∙ c.loop-l.invariant.2 i ∙ sym (others_skip ks c.args.j c.loop-l.l w.if-l-j.false (at c.args.syndromes.now) i)),
-      w.d-is ∙ c.loop-l.invariant.3 ∙ sym (spread_skip ks c.args.j c.loop-l.l w.if-l-j.false c.alpha_power-x.result),
-    )
+      | then-l-j w ↦ (
+        omega arith,
+        ap length (w.rest-is ∙ w.take_out.ensures) ∙ length-tabulate _ (length c.loop-l.rest) ∙ c.loop-l.invariant.1,
+        others_next ks c.args.syndromes.now c.loop-l.rest c.if-l-j.rest c.args.j c.loop-l.l _ w.if-l-j.true w.alpha_power-y.ensures (w.rest-is ∙ w.take_out.ensures) c.loop-l.invariant.2,
+        w.d-is ∙ w.product-d.ensures ∙ ap₂ mul c.loop-l.invariant.3 (ap (add c.alpha_power-x.result) w.alpha_power-y.ensures) ∙ sym (spread-take ks c.args.j c.loop-l.l w.if-l-j.true c.alpha_power-x.result),
+      )
+      | else-l-j w ↦ (
+        omega arith,
+        ap length w.rest-is ∙ c.loop-l.invariant.1,
+        (λ i. ap (λ (r : List ℕ). at r i) w.rest-is ∙ c.loop-l.invariant.2 i ∙ sym (others_skip ks c.args.j c.loop-l.l w.if-l-j.false (at c.args.syndromes.now) i)),
+        w.d-is ∙ c.loop-l.invariant.3 ∙ sym (spread_skip ks c.args.j c.loop-l.l w.if-l-j.false c.alpha_power-x.result),
+      )
     ]
 
 pub inverse_of-requires : goal.inverse_of-requires

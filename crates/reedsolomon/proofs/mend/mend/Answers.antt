@@ -1,13 +1,12 @@
 -- `mend::mend` meets its contract. Assumes nothing.
 use mathlib.Core.Path.{◌≡◌, refl, sym, ap, ap₂, ◌∙◌}
 use mathlib.Core.List.{List}
-use Prim.Native.Nat.{ℕ, suc, ◌+◌, ◌-◌, ◌<◌, ◌≤◌}
+use Prim.Native.Nat.{ℕ, suc, ◌+◌, ◌-◌, ◌<◌}
 use lib.ListN.{length, get_or, set, length-set}
 use Rattle.field.specs.Field.{add}
 use Rattle.codes.specs.Inner.{at, change, mend_from, mended}
 use Rattle.reedsolomon.proofs.Loops.{mend_next, mend_end}
 use native.Mathlib.Omega.{arith}
-use borrow.Author.Rules.{rules}
 use Rattle.reedsolomon.proofs.mend.mend.Goals as goal
 
 pub loop-j-init : goal.loop-j-init

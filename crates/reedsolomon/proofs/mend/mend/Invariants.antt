@@ -1,13 +1,8 @@
 -- `mend::mend` meets its contract. Assumes nothing.
-use mathlib.Core.Path.{◌≡◌, refl, sym, ap, ap₂, ◌∙◌}
-use mathlib.Core.List.{List}
-use Prim.Native.Nat.{ℕ, suc, ◌+◌, ◌-◌, ◌<◌, ◌≤◌}
-use lib.ListN.{length, get_or, set, length-set}
-use Rattle.field.specs.Field.{add}
-use Rattle.codes.specs.Inner.{at, change, mend_from, mended}
-use Rattle.reedsolomon.proofs.Loops.{mend_next, mend_end}
-use native.Mathlib.Omega.{arith}
-use borrow.Author.Rules.{rules}
+use mathlib.Core.Path.{◌≡◌}
+use Prim.Native.Nat.{◌-◌, ◌≤◌}
+use lib.ListN.{length}
+use Rattle.codes.specs.Inner.{at, mend_from, mended}
 use Rattle.reedsolomon.proofs.mend.mend.Given as goal
 
 abbrev pub invariant-loop-j : goal.invariant-loop-j

@@ -41,13 +41,12 @@ returns-in-Repaired c =
     record { bytes_value = all.0; outcome_value = all.1 }
 
 pub correct_row_located-requires : goal.correct_row_located-requires
-correct_row_located-requires c =
-    (
-      c.requires.0,
-      c.requires.1,
-      c.requires.2,
-      counted c.args.erasures.now c.count_erasures-marked.result c.requires.2 c.count_erasures-marked.ensures,
-      omega arith,
-      c.requires.3,
-      sym c.all_zero.ensures ∙ c.if-all_zero.false,
-    )
+correct_row_located-requires c = (
+  c.requires.0,
+  c.requires.1,
+  c.requires.2,
+  counted c.args.erasures.now c.count_erasures-marked.result c.requires.2 c.count_erasures-marked.ensures,
+  omega arith,
+  c.requires.3,
+  sym c.all_zero.ensures ∙ c.if-all_zero.false,
+)

@@ -1,16 +1,15 @@
 -- `row::correct_row_located` meets its contract: the syndromes of the mended row decide. Assumes nothing.
-use mathlib.Core.Path.{◌≡◌, refl, sym}
+use mathlib.Core.Path.{refl, sym}
 use mathlib.Core.Bool.{false}
 use mathlib.Core.List.{List}
 use Prim.Native.Nat.{ℕ}
 use native.Mathlib.Omega.{arith}
-use lib.ListN.{length, get_or}
+use lib.ListN.{get_or}
 use mir.Val.{Fits}
 use mir.Syntax.{w8}
 use borrow.Author.Rules.{rules}
 use Rattle.lists.specs.Bytes.{Bytes}
 use Rattle.lists.proofs.Bytes.{bytes_of}
-use Rattle.layout.specs.Lengths.{row_size}
 use Rattle.codes.proofs.Decision.{places_below}
 use Rattle.reedsolomon.proofs.Repair.{row_shape, word_corrected, word_uncorrectable}
 use Rattle.reedsolomon.proofs.row.correct_row_located.Goals as goal

@@ -5,7 +5,6 @@ use Prim.Native.Nat.{ℕ}
 use borrow.Author.Tests.{eq-eqb, ne_eqb}
 use lib.Dec.{eqb}
 use Rattle.codes.specs.Inner.{poly_at, is_root}
-use borrow.Author.Rules.{rules}
 use Rattle.reedsolomon.proofs.search.is_suspect.Goals as goal
 
 pub returns-then-mark-eq1 : goal.returns-then-mark-eq1

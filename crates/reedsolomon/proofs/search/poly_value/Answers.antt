@@ -1,7 +1,7 @@
 -- `search::poly_value` meets its contract: Horner's rule from the highest coefficient on. Assumes nothing.
 use mathlib.Core.Path.{◌≡◌, sym, ap, ◌∙◌}
-use Prim.Native.Nat.{ℕ, ◌-◌, ◌≤◌}
-use lib.ListN.{length, get_or, drop}
+use Prim.Native.Nat.{ℕ, ◌-◌}
+use lib.ListN.{get_or, drop}
 use Rattle.field.specs.Field.{add}
 use Rattle.codes.specs.Inner.{poly_at}
 use Rattle.reedsolomon.proofs.Loops.{poly_start, poly_next}

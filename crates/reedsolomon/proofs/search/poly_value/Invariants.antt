@@ -1,11 +1,8 @@
 -- `search::poly_value` meets its contract: Horner's rule from the highest coefficient on. Assumes nothing.
-use mathlib.Core.Path.{◌≡◌, sym, ap, ◌∙◌}
-use Prim.Native.Nat.{ℕ, ◌-◌, ◌≤◌}
-use lib.ListN.{length, get_or, drop}
-use Rattle.field.specs.Field.{add}
+use mathlib.Core.Path.{◌≡◌}
+use Prim.Native.Nat.{◌≤◌}
+use lib.ListN.{length, drop}
 use Rattle.codes.specs.Inner.{poly_at}
-use Rattle.reedsolomon.proofs.Loops.{poly_start, poly_next}
-use native.Mathlib.Omega.{arith}
 use Rattle.reedsolomon.proofs.search.poly_value.Given as goal
 
 abbrev pub invariant-loop-i : goal.invariant-loop-i

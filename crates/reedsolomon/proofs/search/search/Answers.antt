@@ -67,27 +67,27 @@ loop-k-preserved c =
     let m = c.args.erasures.now in
     let bytes = bytes_of q (λ i h. omega (arith, c.type_inv.locator i)) in
     elim c.if-is_suspect.branch [
-    then-is_suspect w ↦
-      let room =
-      in-room m q (length c.args.places.now) c.loop-k.places c.loop-k.count c.loop-k.i c.loop-k.k c.is_suspect.result bytes c.requires.1 c.requires.2 c.requires.3 (omega arith)
-      c.loop-k.invariant.0 c.loop-k.invariant.1 c.loop-k.invariant.2 c.loop-k.invariant.3 c.is_suspect.ensures w.if-is_suspect.true in
-      let goes-on =
-      goes m q (length c.args.places.now) c.loop-k.places c.loop-k.count c.loop-k.i c.loop-k.k c.is_suspect.result bytes c.requires.1 c.requires.2 c.requires.3 (omega arith)
-      c.loop-k.invariant.0 c.loop-k.invariant.1 c.loop-k.invariant.2 c.loop-k.invariant.3 c.is_suspect.ensures w.if-is_suspect.true in (
-        omega (arith, room, c.loop-k.invariant.1, w.count-is),
-        ap length w.places-is ∙ length-set c.loop-k.places c.loop-k.count (c.loop-k.k - 1) ∙ c.loop-k.invariant.1,
-        omega arith,
-        ap₂ (λ (n : ℕ) (p : List ℕ). take n p ++ places_where (is_suspect m q) (c.loop-k.k - 1)) w.count-is w.places-is ∙ goes-on,
-      )
-    | else-is_suspect w ↦
-      let stays-on =
-      stays m q (length c.args.places.now) c.loop-k.places c.loop-k.count c.loop-k.i c.loop-k.k c.is_suspect.result bytes c.requires.1 c.requires.2 c.requires.3 (omega arith)
-      c.loop-k.invariant.0 c.loop-k.invariant.1 c.loop-k.invariant.2 c.loop-k.invariant.3 c.is_suspect.ensures w.if-is_suspect.false in (
-        omega (arith, c.loop-k.invariant.0, w.count-is),
-        ap length w.places-is ∙ c.loop-k.invariant.1,
-        omega arith,
-        ap₂ (λ (n : ℕ) (p : List ℕ). take n p ++ places_where (is_suspect m q) (c.loop-k.k - 1)) w.count-is w.places-is ∙ stays-on,
-      )
+      | then-is_suspect w ↦
+          let room =
+          in-room m q (length c.args.places.now) c.loop-k.places c.loop-k.count c.loop-k.i c.loop-k.k c.is_suspect.result bytes c.requires.1 c.requires.2 c.requires.3 (omega arith)
+          c.loop-k.invariant.0 c.loop-k.invariant.1 c.loop-k.invariant.2 c.loop-k.invariant.3 c.is_suspect.ensures w.if-is_suspect.true in
+          let goes-on =
+          goes m q (length c.args.places.now) c.loop-k.places c.loop-k.count c.loop-k.i c.loop-k.k c.is_suspect.result bytes c.requires.1 c.requires.2 c.requires.3 (omega arith)
+          c.loop-k.invariant.0 c.loop-k.invariant.1 c.loop-k.invariant.2 c.loop-k.invariant.3 c.is_suspect.ensures w.if-is_suspect.true in (
+            omega (arith, room, c.loop-k.invariant.1, w.count-is),
+            ap length w.places-is ∙ length-set c.loop-k.places c.loop-k.count (c.loop-k.k - 1) ∙ c.loop-k.invariant.1,
+            omega arith,
+            ap₂ (λ (n : ℕ) (p : List ℕ). take n p ++ places_where (is_suspect m q) (c.loop-k.k - 1)) w.count-is w.places-is ∙ goes-on,
+          )
+      | else-is_suspect w ↦
+          let stays-on =
+          stays m q (length c.args.places.now) c.loop-k.places c.loop-k.count c.loop-k.i c.loop-k.k c.is_suspect.result bytes c.requires.1 c.requires.2 c.requires.3 (omega arith)
+          c.loop-k.invariant.0 c.loop-k.invariant.1 c.loop-k.invariant.2 c.loop-k.invariant.3 c.is_suspect.ensures w.if-is_suspect.false in (
+            omega (arith, c.loop-k.invariant.0, w.count-is),
+            ap length w.places-is ∙ c.loop-k.invariant.1,
+            omega arith,
+            ap₂ (λ (n : ℕ) (p : List ℕ). take n p ++ places_where (is_suspect m q) (c.loop-k.k - 1)) w.count-is w.places-is ∙ stays-on,
+          )
     ]
 
 pub shape_of-places : goal.shape_of-places
