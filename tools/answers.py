@@ -226,7 +226,10 @@ EASY = re.compile(r"^\s*(search (rules|needs)|omega arith|tt|refl-nothing)\s*$")
 
 def turn(crate, func_dir, data, mod):
     proof = f"{func_dir}/Proof.antt"
-    text = read(proof)
+    text = re.sub(r"\.Is(First|Sync)-", lambda m: "." + m[1].lower() + "-", read(proof))
+    # a test by `!` says today what its operand is
+    text = re.sub(rf"\(not-(?:true|false) \S+ ({NAME}(?:\.{NAME})+)\)", r"\1", text)
+    text = re.sub(rf"\bnot-(?:true|false) \S+ ({NAME}(?:\.{NAME})+)", r"\1", text)
     said = []
     f = Function(data, said)
     uses, inv, ans, head = [], [], [], []

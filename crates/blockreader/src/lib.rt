@@ -16,7 +16,7 @@ use reader::SectorRead;
 use repairer::{Repaired, Tallies};
 
 // What the whole-block reader answers. The number of each is `block_read_number`, and the frame it carries `block_read_frame`.
-#[derive(Drop)]
+#[derive(Clone, Copy)]
 pub enum BlockRead {
     // All frames pass: the main data are handed out, with the first number, the repairer's tallies and the sums of the sector tallies.
     Block {

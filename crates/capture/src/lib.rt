@@ -15,7 +15,7 @@ use layout::{FRAME_BYTES, FRAME_STREAM, LONGEST_CAPTURE};
 pub use reader::{CaptureReader, look, moved, new, read, read_capture};
 
 // What the capture reader answers. The number of each is `capture_number`.
-#[derive(Drop)]
+#[derive(Clone, Copy)]
 pub enum CaptureRead {
     // How many frames were taken, and how many stretches there are.
     Captured { frames: u64, stretches: u64 },

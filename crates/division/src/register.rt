@@ -7,7 +7,7 @@ ghost use Rattle.multiples.specs.Inner.{top, high, low, multiples};
 ghost use Rattle.division.specs.Inner.{beside, register_at};
 
 // The first eight places of a register, and the last eight.
-#[derive(Drop)]
+#[derive(Clone, Copy)]
 pub struct Remainder {
     pub high: u64,
     pub low: u64,

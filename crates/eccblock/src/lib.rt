@@ -26,7 +26,7 @@ pub enum Previous {
 }
 
 // What the block maker answers. The number of each, document 01's or 02's, is `encode_number`.
-#[derive(Drop)]
+#[derive(Clone, Copy)]
 pub enum Encoded {
     Block,
     LengthRefused,

@@ -15,7 +15,7 @@ use layout::{BLOCK_SIZE, SECTORS_STREAM, STREAM_SIZE};
 use writer::{Answer, Record};
 
 // What the formatter answers. The documents' number of each is `formatted_number`.
-#[derive(Drop)]
+#[derive(Clone, Copy)]
 pub enum Formatted {
     Done,
     LengthRefused,

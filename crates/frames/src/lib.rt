@@ -18,7 +18,7 @@ use step::fill;
 pub use step::lower;
 
 // The ends of Streams 1 and 2, and how many bytes of the two buffers are known to agree: a copy leaves those out.
-#[derive(Drop)]
+#[derive(Clone, Copy)]
 pub(crate) struct Pair {
     pub(crate) one: Side,
     pub(crate) two: Side,

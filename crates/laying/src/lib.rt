@@ -13,7 +13,7 @@ ghost use Rattle.laying.specs.Inner.{side_after, Next};
 use levels::Running;
 
 // The end of a stream: its running record and its last half word.
-#[derive(Drop)]
+#[derive(Clone, Copy)]
 pub struct Side {
     pub running: Running,
     pub tail: u16,

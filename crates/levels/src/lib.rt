@@ -12,7 +12,7 @@ ghost use Rattle.levels.specs.Inner.{Room, byte_levels, level_table};
 pub const ZERO_AT: u64 = 1099511627776;
 
 // The running record: the State prescribed next, the NRZI level, and the DSV, held with 0 at ZERO_AT.
-#[derive(Drop)]
+#[derive(Clone, Copy)]
 pub struct Running {
     pub state: u8,
     pub level: u8,

@@ -17,7 +17,7 @@ ghost use Rattle.reader.specs.Sector.{lost_sync, unknown_tally, sync_tally, sect
 use layout::{CLOSING_SIZE, FRAME_BYTES, FRAME_HALVES, SECTOR_FRAMES, SECTOR_READ, SECTOR_SIZE};
 
 // What the sector reader answers. Document 01's number of each is `sector_read_number`.
-#[derive(Drop)]
+#[derive(Clone, Copy)]
 pub enum SectorRead {
     // The tally of unknown words, and of SYNC places that hold none of the four codes due there.
     Sector { unknown: u32, sync: u32 },

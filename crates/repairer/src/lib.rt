@@ -17,20 +17,20 @@ mod rows;
 mod words;
 
 // How many words were corrected, and how many are past help.
-#[derive(Drop)]
+#[derive(Clone, Copy)]
 pub struct Tally {
     pub corrected: u32,
     pub uncorrectable: u32,
 }
 
-#[derive(Drop)]
+#[derive(Clone, Copy)]
 pub struct Tallies {
     pub rows: Tally,
     pub columns: Tally,
 }
 
 // What the block repairer answers. The number of each is `repair_number`, and the frame it carries `repair_frame`.
-#[derive(Drop)]
+#[derive(Clone, Copy)]
 pub enum Repaired {
     // All frames pass: the main data are handed out, with the first number.
     Block { first: u32, tallies: Tallies },

@@ -12,7 +12,7 @@ use codes::Outcome;
 use layout::{COLUMN_COUNT, ROW_COUNT};
 
 // The 208 rows in recording order, or columns 0 to 171 in the order before the rows were moved.
-#[derive(Drop)]
+#[derive(Clone, Copy)]
 pub(crate) enum Axis {
     Rows,
     Columns,

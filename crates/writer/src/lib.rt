@@ -17,7 +17,7 @@ pub use refusal::block_refusal;
 // The writer's record: the State prescribed next, the NRZI level, the DSV, the sectors written, whether the closing code is written, the peak, which is the
 // greatest absolute DSV at the end of a Sync Frame so far, and the mark of the last trial: whether there is one, and the DSV that it gave, 0 where there is none.
 #[repr(C)]
-#[derive(Drop)]
+#[derive(Clone, Copy)]
 pub struct Record {
     pub state: u8,
     pub level: u8,
@@ -30,7 +30,7 @@ pub struct Record {
 }
 
 // What a call answers. Only `Done` changes anything.
-#[derive(Drop)]
+#[derive(Clone, Copy)]
 pub enum Answer {
     Done,
     LengthRefused,

@@ -2,12 +2,8 @@
 use mathlib.Core.Path.{refl}
 use Rattle.field.specs.Field.{add, double, mul_bits, mul, square, pow_halves, pow}
 use Rattle.codes.specs.Parity.{add_words, times_root, generator}
-use Rattle.parity.proofs.ied.generator2.Statement.{statement}
-use Rattle.parity.proofs.ied.generator2.Tie as tie
+use Rattle.parity.proofs.ied.generator2.Goals as goal
 
-returns : tie.Need-returns
+pub returns : goal.returns
 unfolding add double mul_bits mul square pow_halves pow add_words times_root generator
 returns c = refl
-
-pub generator2_spec : {M : Type 1} → statement M
-generator2_spec = tie.close (tie.spec returns)

@@ -1,0 +1,16 @@
+-- `parity::ied::divide_into` meets its contract: what is left to divide in gives the same remainder at every turn. Assumes nothing.
+use mathlib.Core.List.{List}
+use mathlib.Core.Path.{◌≡◌, refl, ap, sym, ◌∙◌}
+use Prim.Native.Nat.{ℕ, ◌≤◌, ◌-◌, ◌+◌}
+use native.Mathlib.Omega.{arith}
+use lib.ListN.{length, get_or, drop}
+use borrow.Author.Rules.{rules}
+use Rattle.codes.specs.Parity.{remainder}
+use Rattle.codes.proofs.Shift.{shift_size, remainder_next, remainder_end}
+use Rattle.parity.proofs.ied.divide_into.Given as goal
+
+abbrev pub invariant-loop-i : goal.invariant-loop-i
+invariant-loop-i l = (l.i ≤ length l.d) × (length l.reg ≡ length l.initial.reg) × (remainder l.g l.reg (drop l.i l.d) ≡ remainder l.g l.initial.reg l.d)
+
+abbrev pub decreases-loop-i : goal.decreases-loop-i
+decreases-loop-i l = length l.d - l.i
