@@ -106,6 +106,7 @@ class Function:
             if clause and clause.get("fields"):
                 self.fields[new] = clause["fields"]
         self.pre = (data["pre"] or {}).get("fields")
+        self.args = {a.split(".")[-1]: b.split(".")[-1] for a, b in data["args"] if a.startswith(".args")}
         self.places = {norm(place[0]): new for place, new in zip(data["places"], data["places_by_name"])}
         self.loops = data["loops"]
         self.changed = data["changed"]
@@ -132,7 +133,9 @@ class Function:
             k = int(rest[0])
             if k < len(self.pre):
                 return ["requires", self.pre[k]] + rest[1:]
-        step = self.steps.get(norm(head))
+        if head == "args" and rest and rest[0] in self.args:
+            rest = [self.args[rest[0]]] + rest[1:]
+        step = self.steps.get(norm(head)) or self.steps.get(norm(head[: -len("_lem")] if head.endswith("_lem") else head))
         if step:
             head = step
             if rest[:1] == ["ensures"] and len(rest) > 1 and rest[1].isdigit() and step in self.fields:
@@ -213,11 +216,18 @@ def as_record(body, fields):
             pass
     head, tail = body[:tail_start], body[tail_start:]
     t = tail.strip()
+    lets = head.rstrip() + "\n    " if head.strip() else ""
+    rec = lambda parts: "record {\n" + "".join(f"      {f} = {p};\n" for f, p in zip(fields, parts)) + "    }"  # noqa: E731
     if t.startswith("(") and matching(t, 0) == len(t) - 1:
         parts = split_top(t[1:-1])
         if len(parts) == len(fields):
-            rec = "record {\n" + "".join(f"      {f} = {p};\n" for f, p in zip(fields, parts)) + "    }"
-            return (head.rstrip() + "\n    " if head.strip() else "") + rec
+            return lets + rec(parts)
+    if t.startswith("elim ") or t.startswith("record "):
+        return None
+    # a lemma that gives all clauses at once
+    if not re.search(r"(?<![^\s(])_(?![^\s)])", t):
+        return (lets or "\n    ") + "let all = " + t + " in\n    " + rec([f"all.{k}" for k in range(len(fields))])
+    return lets + rec([f"({t}).{k}" for k in range(len(fields))])
     return None
 
 
@@ -286,7 +296,7 @@ def turn(crate, func_dir, data, mod):
                 continue
             if EASY.match(body) and not unf:
                 continue
-            args = pat.split()
+            args = [a for a in pat.split()[1:] if a != "κs"]
             body = f.paths(body).lstrip(" ")
             if re.match(r"\s*omega \(arith", body) and "slice_known" in body or re.fullmatch(r"\s*(let \S+ = \S+ in\s*)*omega \(arith[^∙]*_known-[^∙]*\)\s*", body):
                 continue
@@ -300,7 +310,7 @@ def turn(crate, func_dir, data, mod):
             if "\n" in body.strip() and not body.startswith("\n") and not body.startswith("record"):
                 body = "\n    " + body
             comment = "\n".join(l for l in b.split("\n") if l.startswith("--"))
-            ans.append((comment + "\n" if comment else "") + f"pub {new} : goal.{new}\n" + (unf + "\n" if unf else "") + f"{new} c =" + ("" if body.startswith("\n") else " ") + body.rstrip())
+            ans.append((comment + "\n" if comment else "") + f"pub {new} : goal.{new}\n" + (unf + "\n" if unf else "") + " ".join([new, "c", *args, "="]) + ("" if body.startswith("\n") else " ") + body.rstrip())
             kept += 1
             continue
         if re.search(r": \{M : Type 1\} → statement M|statement M", line):

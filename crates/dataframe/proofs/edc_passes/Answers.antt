@@ -14,7 +14,7 @@ use Rattle.dataframe.proofs.edc_passes.Goals as goal
 pub returns : goal.returns
 unfolding edc_passes
 returns c =
-    let f = c.args.t1 in
+    let f = c.args.frame in
     let len : length f ≡ frame_size = search rules in
     let a : take 4 (drop edc_place f) ≡ drop edc_place f = take_all 4 (drop edc_place f) (rw length-drop (omega arith)) in
     let e = c.edc-e.ensures ∙ ap (λ (x : List ℕ). edc_of (take edc_place x)) c.unscramble-plain.ensures in

@@ -8,4 +8,4 @@ use Rattle.dataframe.proofs.unscramble.Goals as goal
 
 pub returns : goal.returns
 unfolding unscrambled
-returns c = c.scramble.ensures ∙ ap (λ (x : ℕ). scrambled x c.args.t1) c.sector_number-number.ensures
+returns c = c.scramble.ensures ∙ ap (λ (x : ℕ). scrambled x c.args.frame) c.sector_number-number.ensures
