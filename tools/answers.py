@@ -98,17 +98,22 @@ class Function:
             self.needs[norm(old)] = new
         self.settled = set(map(norm, data["settled"]))
         self.asked = {norm(k): v for k, v in data["asked"].items()}
-        self.steps, self.fields = {}, {}
+        self.steps, self.fields, self.arms = {}, {}, {}
         for place, clause in zip(data["places"], data["clauses"]):
             old, new = place[2]
             if old:
                 self.steps[norm(old)] = new
+                k = re.fullmatch(r"At-(.*)-(keys\d+)", place[0])
+                if k:
+                    self.arms[norm(k[1]), k[2]] = new
             if clause and clause.get("fields"):
                 self.fields[new] = clause["fields"]
         self.pre = (data["pre"] or {}).get("fields")
+        self.callee = {place[2][1]: data["params"].get(place[3]) for place in data["places"] if place[3]}
         self.args = {a.split(".")[-1]: b.split(".")[-1] for a, b in data["args"] if a.startswith(".args")}
         self.places = {norm(place[0]): new for place, new in zip(data["places"], data["places_by_name"])}
         self.loops = data["loops"]
+        self.typed = {norm(known): variable for place in data["typed"] for variable, known in place}
         self.changed = data["changed"]
 
     def need(self, name):
@@ -120,6 +125,19 @@ class Function:
                 return k, None
         return None, None
 
+    def clause(self, fields, rest):
+        """The clause that nested pairs (`.1.1.0`) or one number name, as segments; None: several, from the answer's second on."""
+        n, i = len(fields), 0
+        if rest[0].isdigit() and int(rest[0]) > 1:
+            return ([fields[int(rest[0])]] + rest[1:] if int(rest[0]) < n else rest), None
+        while i < n - 1 and rest[:1] == ["1"]:
+            rest, i = rest[1:], i + 1
+        if i == n - 1:
+            return [fields[i]] + rest, None
+        if rest[:1] == ["0"]:
+            return [fields[i]] + rest[1:], None
+        return (None, i) if not rest else (rest, None)
+
     def path(self, segs):
         """The new spelling of the segments behind c, leading before's dropped."""
         segs = [s for s in segs]
@@ -129,19 +147,34 @@ class Function:
             return []
         head = segs[0]
         rest = segs[1:]
-        if head == "requires" and rest and rest[0].isdigit() and self.pre:
-            k = int(rest[0])
-            if k < len(self.pre):
-                return ["requires", self.pre[k]] + rest[1:]
+        if head == "requires" and rest and rest[0].isdigit() and self.pre and len(self.pre) > 1:
+            new, k = self.clause(self.pre, rest)
+            return ["requires"] + (new if new else [f"FROM-{k}"])
+        if rest[:1] == ["given"] and norm(head) in self.typed:
+            return ["type_inv", self.typed[norm(head)]] + rest[1:]
+        if rest and (norm(head), rest[0]) in self.arms:  # what a `match` tells of the value: its variant, or that it is not an earlier arm's
+            arm = self.arms[norm(head), rest[0]]
+            earlier = re.match(r"in-([^-]*)", self.arms.get((norm(head), "keys1"), ""))
+            return [arm, "not-" + earlier[1] if arm.startswith("in_default") and earlier else "is"] + rest[1:]
         if head == "args" and rest and rest[0] in self.args:
             rest = [self.args[rest[0]]] + rest[1:]
-        step = self.steps.get(norm(head)) or self.steps.get(norm(head[: -len("_lem")] if head.endswith("_lem") else head))
+        plain = re.sub(r"_lem$", "", head)
+        plain = plain[:1].lower() + plain[1:]
+        if norm(head) not in self.steps and norm(plain) in self.steps:
+            head = plain
+        step = self.steps.get(norm(head))
         if step:
             head = step
+            if rest[:1] in (["new"], ["auto"]) and rest[1:2] and rest[1] in "01" and self.callee.get(step):
+                i = 1
+                while rest[i : i + 1] == ["1"]:
+                    i += 1
+                params = self.callee[step]
+                if rest[i : i + 1] == ["0"] and i - 1 < len(params):
+                    rest = [rest[0], params[i - 1]] + rest[i + 1 :]
             if rest[:1] == ["ensures"] and len(rest) > 1 and rest[1].isdigit() and step in self.fields:
-                k = int(rest[1])
-                if k < len(self.fields[step]):
-                    rest = ["ensures", self.fields[step][k]] + rest[2:]
+                new, k = self.clause(self.fields[step], rest[1:])
+                rest = ["ensures"] + (new if new else [f"FROM-{k}"])
         return [head] + rest
 
     def paths(self, body):
@@ -158,6 +191,7 @@ class Function:
                 while w and w[0] == "before":
                     w.pop(0)
                 told = len(w) == 2 and w[1] == "ensures" and self.steps.get(norm(w[0])) in self.fields or w == ["requires"] and self.pre
+                told = told or any(x.startswith("FROM-") for x in self.path(whole)) or (w[:1] == ["requires"] and self.pre)
                 if not w or (len(w) == 1 and norm(w[0]) in self.steps) or told:
                     aliases[m[1]] = whole
         names = "|".join(sorted(map(re.escape, aliases), key=len, reverse=True))
@@ -172,12 +206,22 @@ class Function:
             new = self.path(whole)
             if not new:
                 return ".".join(["c"] + whole)
-            fields = self.pre if new == ["requires"] else self.fields.get(new[0]) if new[1:] == ["ensures"] else None
-            if fields and len(fields) > 1:
-                return "(" + ", ".join(".".join(["c"] + new + [field]) for field in fields) + ")"
+            fields = self.pre if new[:1] == ["requires"] and len(new) < 3 else self.fields.get(new[0]) if new[1:2] == ["ensures"] and len(new) < 4 else None
+            if new and new[-1].startswith("FROM-"):
+                fields = fields[int(new[-1][5:]) :]
+                new = new[:-1]
+            elif new and new[-1] not in ("requires", "ensures"):
+                fields = None
+            if fields and len(fields) > 1:  # a record today, a tuple before
+                parts = [".".join(["c"] + new + [x]) for x in fields]
+                return "(" + ", (".join(parts) + ")" * (len(parts) - 1) if len(parts) > 2 else "(" + ", ".join(parts) + ")"
             return ".".join(["c"] + new)
 
-        return re.sub(rf"(?<![^\s(){{}};,])({names})((?:\.{NAME})*)(?![^\s(){{}}.;,])", turn, body)
+        body = re.sub(rf"(?<![^\s(){{}};,])({names})((?:\.{NAME})*)(?![^\s(){{}}.;,])(?! = )", turn, body)
+        # the test of an `if !x` speaks of x itself today
+        # that a slice keeps its length is found without the name
+        body = re.sub(r", c\.[^\s,()]+-1\.given(?=[,)])", "", body)
+        return re.sub(r"not-(?:true|false) (?:_|[^\s()]+\.result|a\.\w+|c\.args\.\w+) (c\.if-not[^\s(),]*\.(?:true|false))", r"\1", body)
 
 
 def clause_of(block):
@@ -220,14 +264,20 @@ def as_record(body, fields):
     rec = lambda parts: "record {\n" + "".join(f"      {f} = {p};\n" for f, p in zip(fields, parts)) + "    }"  # noqa: E731
     if t.startswith("(") and matching(t, 0) == len(t) - 1:
         parts = split_top(t[1:-1])
+        while len(parts) < len(fields) and parts[-1].startswith("(") and matching(parts[-1], 0) == len(parts[-1]) - 1:
+            parts = parts[:-1] + split_top(parts[-1][1:-1])
+        if len(parts) < len(fields):  # the last part is a lemma that gives the clauses that are left
+            more = len(fields) - len(parts) + 1
+            parts = parts[:-1] + [f"({parts[-1]})" + ".1" * k + ".0" * (k < more - 1) for k in range(more)]
         if len(parts) == len(fields):
             return lets + rec(parts)
-    if t.startswith("elim ") or t.startswith("record "):
+    if re.match(r"record |elim |⊎-elim|search |grind ", t):
         return None
-    # a lemma that gives all clauses at once
+    # a lemma that gives all clauses at once, as nested pairs
+    part = lambda k: ".1" * k + ".0" * (k < len(fields) - 1)  # noqa: E731
     if not re.search(r"(?<![^\s(])_(?![^\s)])", t):
-        return (lets or "\n    ") + "let all = " + t + " in\n    " + rec([f"all.{k}" for k in range(len(fields))])
-    return lets + rec([f"({t}).{k}" for k in range(len(fields))])
+        return (lets or "\n    ") + "let all = " + t + " in\n    " + rec([f"all{part(k)}" for k in range(len(fields))])
+    return lets + rec([f"({t}){part(k)}" for k in range(len(fields))])
     return None
 
 

@@ -2,7 +2,7 @@
 -- that is read (fits, sector_read_lem). The closing code likewise (closing_other, closing_judged).
 -- Assumes nothing.
 use mathlib.Core.Path.{◌≡◌, refl, ap₂}
-use mathlib.Core.Bool.{Bool, true, false, and_false}
+use mathlib.Core.Bool.{Bool, true, false, and-false}
 use mathlib.Core.List.{List}
 use mathlib.Core.Logic.{◌≢◌}
 use Prim.Native.Nat.{ℕ}
@@ -39,11 +39,11 @@ module _ (xs out erasures : List ℕ) where
 
   pub out_other : length out ≢ sector_size → Clauses xs out erasures LengthRefused out erasures
   unfolding sector_fits
-  out_other h = refused (rw (ne_eqb (length out) sector_size h, and_false))
+  out_other h = refused (rw (ne_eqb (length out) sector_size h, and-false))
 
   pub erasures_other : length erasures ≢ sector_size → Clauses xs out erasures LengthRefused out erasures
   unfolding sector_fits
-  erasures_other h = refused (rw (ne_eqb (length erasures) sector_size h, and_false, and_false))
+  erasures_other h = refused (rw (ne_eqb (length erasures) sector_size h, and-false, and-false))
 
   -- what is read of the sector, with its tallies
   pub sector_read_lem :

@@ -2,7 +2,7 @@
 -- scan_first, scan_gap), the bits of a stream one by one (bits_at), and the scan over them (scan_more, scan_end).
 -- Assumes nothing.
 use mathlib.Core.Path.{◌≡◌, refl, sym, ◌∙◌}
-use mathlib.Core.Bool.{Bool, true, false, ◌&&◌, and_assoc, and_true}
+use mathlib.Core.Bool.{Bool, true, false, ◌&&◌, and_assoc, and-true}
 use mathlib.Core.List.{List, [], ◌∷◌}
 use Prim.Native.Nat.{ℕ, zero, suc, ◌+◌, ◌*◌, ◌-◌, ◌/◌, ◌%◌, ◌<◌, ◌≤◌}
 use native.Mathlib.Numerals.{add-one}
@@ -85,4 +85,4 @@ scan_more xs a r j b h e w =
 -- the scan's end
 pub scan_end : (xs : List ℕ) (a : Scan) (j : ℕ) → 8 * length xs ≤ j → (a.ok && zero_runs_from a.seen j a.zeros (drop j (bits_bytes xs))) ≡ a.ok
 unfolding zero_runs_from
-scan_end xs a j h = rw (drop_of_length-le (bits_bytes xs) {i = j} (omega (arith, bits-long xs))) (and_true a.ok)
+scan_end xs a j h = rw (drop_of_length-le (bits_bytes xs) {i = j} (omega (arith, bits-long xs))) (and-true a.ok)

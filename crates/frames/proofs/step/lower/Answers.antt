@@ -1,0 +1,7 @@
+-- `frames::step::lower` meets its contract.
+-- Assumes nothing.
+use borrow.Author.Rules.{rules}
+use Rattle.frames.proofs.step.lower.Goals as goal
+
+pub returns : goal.returns
+returns c = (cc)
