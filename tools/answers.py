@@ -374,6 +374,9 @@ def turn(crate, func_dir, data, mod):
         ans.append(b)
         if "tie." in b or "lts." in b:
             said.append("a helper names tie.: " + line[:80])
+    # a pattern's parameter has its own name today
+    respelled = lambda s: re.sub(r"\.(t\d+)\b", lambda m: "." + f.args.get(m[1], m[1]), s)  # noqa: E731
+    ans, inv = list(map(respelled, ans)), list(map(respelled, inv))
     top = [l for l in head if l.strip()]
     top = [re.sub(r"`bytes::", "`octets::", l) for l in top]
     out = []
