@@ -1,6 +1,6 @@
 /* Chamanzil: the 80 mm DVD channel (ECMA-268), from main data to code bits and back.
  *
- * The functions of target/staticlib/libffi.a, which `rt staticlib ffi` builds. Each is proved to do what its contract in crates/ffi/src says, never to do
+ * The functions of crates/ffi/out/libffi.a, which bin/library builds. Each is proved to do what its contract in crates/ffi/src says, never to do
  * anything undefined, and to return; the contracts cite definitions taken from the standard and from documents 01 and 02. This file repeats them in words.
  *
  * Buffers. A buffer is two arguments: a pointer to its first byte and its length. A pointer is never NULL, not even where the length is 0. A buffer that is
@@ -22,7 +22,7 @@
  * Threads. The functions keep no state, take no lock and allocate nothing: any number of threads may call them at once, on buffers of their own (a buffer that
  * is only read may be shared). A call needs less than 256 KiB of stack.
  *
- * C99 or later, and C++. x86-64 Linux. Link with target/staticlib/libffi.a; nothing else is needed.
+ * C99 or later, and C++. x86-64 Linux. Link with crates/ffi/out/libffi.a; nothing else is needed.
  */
 #ifndef CHAMANZIL_H
 #define CHAMANZIL_H

@@ -1,15 +1,15 @@
-//! Links the archive that `rt staticlib ffi` builds at the top of the repository.
+//! Links the archive that `bin/library` builds at the top of the repository.
 use std::path::Path;
 
 fn main() {
     let root = Path::new(env!("CARGO_MANIFEST_DIR"))
         .parent()
         .expect("rust/ stands in the repository");
-    let folder = root.join("target/staticlib");
+    let folder = root.join("crates/ffi/out");
     let archive = folder.join("libffi.a");
     assert!(
         archive.exists(),
-        "no {}: run `rt staticlib ffi` at the top of the repository first",
+        "no {}: run `bin/library` at the top of the repository first",
         archive.display()
     );
     println!("cargo:rustc-link-search=native={}", folder.display());

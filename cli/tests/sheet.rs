@@ -115,10 +115,10 @@ fn flip_bits(numbers: &mut Numbers, part: &mut [u8]) {
 #[test]
 fn beside_the_proved_program() {
     const BLOCKS: usize = 80;
-    let program = in_repository("target/bin/sheet");
+    let program = in_repository("crates/sheet/out/sheet");
     assert!(
         program.exists(),
-        "no {}: run rt check sheet",
+        "no {}: run rt run in crates/sheet",
         program.display()
     );
     let stream = damaged_run(110, BLOCKS);

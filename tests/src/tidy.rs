@@ -11,10 +11,15 @@ struct Source {
     text: String,
 }
 
-/// The files of the crates with this ending, but for must-fail edits.
+/// The files of the crates with this ending, but for must-fail edits and what rt makes in out/.
 fn sources(ending: &str) -> Vec<Source> {
     let mut found = Vec::new();
-    files_below(&root().join("crates"), ending, &mut found);
+    for entry in fs::read_dir(root().join("crates")).unwrap() {
+        for part in ["src", "specs", "proofs"] {
+            files_below(&entry.as_ref().unwrap().path().join(part), ending, &mut found);
+        }
+    }
+    found.sort();
     found.into_iter().map(|path| Source { text: fs::read_to_string(&path).unwrap(), path }).collect()
 }
 
@@ -33,6 +38,25 @@ fn is_import(line: &str) -> bool {
     ["use ", "ghost use ", "pub use "].iter().any(|word| line.starts_with(word))
 }
 
+/// The imports of a text, each on one line, and the lines beside them. An import goes on until its braces are closed.
+fn imports(text: &str) -> (Vec<String>, Vec<&str>) {
+    let (mut imports, mut beside) = (Vec::<String>::new(), Vec::new());
+    let mut open = 0;
+    for line in text.lines().map(without_comment) {
+        if open > 0 {
+            imports.last_mut().unwrap().push_str(line.trim());
+        } else if is_import(line) {
+            imports.push(line.trim().to_string());
+        } else {
+            beside.push(line);
+            continue;
+        }
+        open += line.matches('{').count();
+        open -= line.matches('}').count();
+    }
+    (imports, beside)
+}
+
 /// A letter of a name: names hold letters, digits, hyphens, primes and signs, and end at spaces, brackets, dots, commas and semicolons.
 fn is_name_letter(c: char) -> bool {
     !c.is_whitespace() && !"(){}[]⌜⌝.,;:&*!\"`".contains(c)
@@ -45,7 +69,7 @@ fn names(text: &str) -> impl Iterator<Item = &str> {
 
 /// What an import brings into scope: the names in its braces, or the last word of its path.
 fn imported(line: &str) -> Vec<String> {
-    let line = line.trim().trim_end_matches(';');
+    let line = line.trim_end_matches(';');
     let local = |item: &str| item.rsplit(" as ").next().unwrap().trim().to_string();
     match line.split_once('{') {
         Some((_, braces)) => braces.trim_end_matches('}').split(',').map(local).filter(|n| !n.is_empty()).collect(),
@@ -53,10 +77,10 @@ fn imported(line: &str) -> Vec<String> {
     }
 }
 
-/// Whether the words of a file hold a name. Of an operator, as `_+_`, they hold its signs; the empty list, `[]`, is all sign.
+/// Whether the words of a file hold a name. Of an operator, as `◌+◌`, they hold its signs; the empty list, `[]`, is all sign.
 fn holds(words: &HashSet<&str>, body: &str, name: &str) -> bool {
-    if name.starts_with('_') || name.ends_with('_') || !name.contains(is_name_letter) {
-        return name.split('_').filter(|sign| !sign.is_empty()).all(|sign| body.contains(sign));
+    if name.contains('◌') || !name.contains(is_name_letter) {
+        return name.split('◌').filter(|sign| !sign.is_empty()).all(|sign| body.contains(sign));
     }
     words.contains(name)
 }
@@ -64,12 +88,12 @@ fn holds(words: &HashSet<&str>, body: &str, name: &str) -> bool {
 fn imports_are_used(report: &mut Report) {
     report.begin("tidy: imports");
     for source in sources(".antt").iter().chain(&sources(".rt")) {
-        let lines: Vec<&str> = source.text.lines().map(without_comment).collect();
-        let body = lines.iter().filter(|l| !is_import(l)).copied().collect::<Vec<_>>().join("\n");
+        let (imports, beside) = imports(&source.text);
+        let body = beside.join("\n");
         let words: HashSet<&str> = names(&body).collect();
         // what a file hands on is used by others
-        for line in lines.iter().filter(|l| is_import(l) && !l.trim_start().starts_with("pub ")) {
-            for name in imported(line) {
+        for import in imports.iter().filter(|l| !l.starts_with("pub ")) {
+            for name in imported(import) {
                 report.check(holds(&words, &body, &name), || format!("{} imports {name} and does not use it", source.path.display()));
             }
         }
@@ -123,7 +147,9 @@ fn lemmas_are_cited(report: &mut Report) {
 fn definitions_import_no_proofs(report: &mut Report) {
     report.begin("tidy: definitions import no proofs");
     for source in sources(".antt").iter().filter(|s| s.path.parent().unwrap().ends_with("specs")) {
-        let from_proofs = source.text.lines().find(|l| is_import(l) && l.contains("proofs."));
+        let (imports, _) = imports(&source.text);
+        // the kit has definitions beside its lemmas: `sets` stands in Rattle.std.proofs
+        let from_proofs = imports.iter().find(|l| l.contains("proofs.") && !l.contains("Rattle.std.proofs."));
         report.check(from_proofs.is_none(), || format!("{}: {}", source.path.display(), from_proofs.unwrap()));
     }
     report.end();

@@ -2,7 +2,6 @@
 // The code is in the crates above, `lightrepair` and `reedsolomon`.
 #![tactic(auto)]
 
-
 // What becomes of a word: it is a code word; it is made one; there is none near enough (document 01: unchanged, changed, past help).
 #[derive(Drop)]
 pub enum Outcome {

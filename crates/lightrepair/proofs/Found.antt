@@ -1,17 +1,17 @@
 -- What the formulas find explains the sums, whichever of them found it; where one finds nothing, what it says then holds (found_weaker, found_told, found_more). What
 -- explains none of a row's sums (none_explains, no_one, no_two, heavier).
 -- Assumes nothing.
-use mathlib.Core.Path.{◌≡◌, sym, ◌∙◌}
+use mathlib.Core.Path.{◌≡◌, refl, sym, ◌∙◌}
 use mathlib.Core.Bool.{true, false, false≢true}
 use mathlib.Core.List.{List, [], ◌∷◌}
-use mathlib.Core.Logic.{◌⊎◌, inl, inr}
 use Prim.Native.Nat.{ℕ, zero, suc, ◌<◌}
 use native.Mathlib.Omega.{arith}
 use borrow.Author.Tests.{eq-eqb}
-use denote.Enum.Declared.{tag_of}
-use types.Run.{OneOf}
 use lib.Dec.{eqb, eqb→eq}
 use lib.ListN.{length, get_or}
+use mir.Val.{Fits}
+use mir.Syntax.{w8}
+use Rattle.lists.proofs.Bytes.{bytes_of, get_or-byte}
 use Rattle.lists.proofs.Test.{truth, truth_of, below_at, below_all}
 use Rattle.codes.specs.Word.{all_zero}
 use Rattle.codes.specs.Inner.{at, sum_of, Inside, Explains, Unexplained}
@@ -21,12 +21,6 @@ use Rattle.layout.specs.Lengths.{row_size, inner_size}
 use Rattle.lightrepair.specs.Inner.{Found, Heavier}
 use Rattle.lightrepair.specs.declared.formulas.Errors.{Errors}
 use Rattle.lightrepair.specs.declared.formulas.Errors.TheVariants.{None, One, Two, More}
-use Rattle.lightrepair.specs.contracts.formulas.Errors as E
-
-apart : (a b c d : ℕ) → a < d → b < d → c < d → (d ≡ a) ⊎ ((d ≡ b) ⊎ (d ≡ c)) → ⊥
-apart a b c d ha hb hc (inl e) = omega arith
-apart a b c d ha hb hc (inr (inl e)) = omega arith
-apart a b c d ha hb hc (inr (inr e)) = omega arith
 
 module _ (S : ℕ → ℕ) (p n : ℕ) (G H : Type 0) where
   pub found_weaker : (G → H) → (r : Errors) → Found G S p n r → Found H S p n r
@@ -36,17 +30,17 @@ module _ (S : ℕ → ℕ) (p n : ℕ) (G H : Type 0) where
   found_weaker h More f = h f
 
   -- wrong bytes are told
-  pub found_told : (r : Errors) → OneOf (0 ∷ 1 ∷ 2 ∷ []) (tag_of E.the_type r) → Found G S p n r → Found H S p n r
+  pub found_told : (r : Errors) → (r ≡ More → ⊥) → Found G S p n r → Found H S p n r
   found_told None k f = f
   found_told (One e) k f = f
   found_told (Two d e) k f = f
-  found_told More k f = absurd (apart 0 1 2 3 (omega arith) (omega arith) (omega arith) k)
+  found_told More k f = absurd (k refl)
 
 -- or more than two are
-pub found_more : (S : ℕ → ℕ) (p n : ℕ) (G : Type 0) (r : Errors) → OneOf (3 ∷ []) (tag_of E.the_type r) → Found G S p n r → G
-found_more S p n G None k f = absurd (omega arith)
-found_more S p n G (One e) k f = absurd (omega arith)
-found_more S p n G (Two d e) k f = absurd (omega arith)
+pub found_more : (S : ℕ → ℕ) (p n : ℕ) (G : Type 0) (r : Errors) → r ≡ More → Found G S p n r → G
+found_more S p n G None k f = absurd (cc)
+found_more S p n G (One e) k f = absurd (cc)
+found_more S p n G (Two d e) k f = absurd (cc)
 found_more S p n G More k f = f
 
 -- s are p sums of a word of n bytes
@@ -80,3 +74,7 @@ no_one s = unexplained_one (at s) inner_size row_size (omega arith)
 pub no_two :
     (s : List ℕ) → ((e f : WrongByte) → e.place < row_size → f.place < row_size → TwoWrong (at s) inner_size e f → ⊥) → Unexplained (at s) inner_size row_size 2
 no_two s = unexplained_two (at s) inner_size row_size (omega arith) (omega arith)
+
+-- a sum is a byte
+pub at_small : (s : List ℕ) → ((j : ℕ) → Fits w8 (get_or s j 0)) → (i : ℕ) → at s i < 256
+at_small s fits i = get_or-byte s i (bytes_of s (λ j l. let f = fits j in omega (arith, f.fits)))

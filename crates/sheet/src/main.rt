@@ -5,7 +5,7 @@ ghost use Rattle.std.specs.Prelude.{◌≡◌, length};
 ghost use Rattle.layout.specs.Lengths.{main_size, block_size};
 
 use layout::{BLOCK_SIZE, MAIN_SIZE};
-use libc::{STDIN_FILENO, STDOUT_FILENO};
+use std::io;
 
 // One byte more than a stream, so that a longer input shows.
 fn stream_room() -> [u8; 77381]
@@ -26,14 +26,14 @@ fn main_room() -> [u8; MAIN_SIZE]
     [0; MAIN_SIZE]
 }
 
-fn main() {
+fn main(rt: HostRuntime) -> io::Result<()> {
     let mut stream = stream_room();
     let mut block = block_room();
     let mut erasures = block_room();
     let mut main = main_room();
     let mut text = [0u8; 128];
-    let n = io::read_full(STDIN_FILENO, &mut stream);
+    let n = intake::read_full(&mut rt.reader(), &mut stream)?;
     let r = blockreader::read_block(&stream[..n], &mut block, &mut erasures, &mut main);
     let k = sheetline::sheet_line(r, &mut text);
-    io::write_all(STDOUT_FILENO, &text[..k]);
+    rt.write_all(&text[..k])
 }

@@ -2,6 +2,8 @@
 ghost use Rattle.std.specs.Prelude.{◌≡◌, leb, nat_abs, cond};
 ghost use Rattle.writer.specs.Records.{offset};
 
+use std::io;
+
 // A number of at most 2^40 either way, with 0 at 2^40; 0 for any other.
 fn lifted(d: i64) -> u64
     ensures { result ≡ cond (leb (nat_abs d) 1099511627776) (offset d) 0 }
@@ -24,9 +26,9 @@ pub(crate) fn absolute(d: i64) -> u64 {
     n - 1099511627776
 }
 
-pub(crate) fn print_signed(d: i64) {
+pub(crate) fn print_signed(rt: &impl Print, d: i64) -> io::Result<()> {
     if d < 0 {
-        io::write_all(1, b"-");
+        rt.print("-")?;
     }
-    io::print_decimal(1, absolute(d));
+    rt.print(absolute(d))
 }

@@ -11,9 +11,9 @@ use Rattle.annexg.proofs.bytes_of.Goals as goal
 
 pub returns-then-table-eq0 : goal.returns-then-table-eq0
 returns-then-table-eq0 c = record {
-      result_value = sym (ap (λ (t : ℕ). length (table_of t)) c.if-table-eq0.true ∙ length_main);
-      upper_bound = lit≤ tt;
-    }
+  result_value = sym (ap (λ (t : ℕ). length (table_of t)) c.if-table-eq0.true ∙ length_main);
+  upper_bound = lit≤ tt;
+}
 
 pub returns-else-table-eq0 : goal.returns-else-table-eq0
 returns-else-table-eq0 c =

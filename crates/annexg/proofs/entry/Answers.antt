@@ -1,7 +1,6 @@
 -- `annexg::entry` meets its contract. An index past the table's end finds 0, as the definition does.
 -- Assumes nothing.
 use Rattle.annexg.proofs.Search.{main_read, main_past, sub_read, sub_past}
-use borrow.Author.Rules.{rules}
 use Rattle.annexg.proofs.entry.Goals as goal
 
 pub returns-then-at-lt1024 : goal.returns-then-at-lt1024

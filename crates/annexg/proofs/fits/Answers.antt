@@ -3,7 +3,6 @@ use mathlib.Core.Path.{ap}
 use mathlib.Core.Bool.{Bool, ◌&&◌}
 use Prim.Native.Nat.{◌/◌}
 use lib.Dec.{eqb}
-use borrow.Author.Rules.{rules}
 use Rattle.annexg.specs.Read.{fits_of}
 use Rattle.annexg.proofs.fits.Goals as goal
 

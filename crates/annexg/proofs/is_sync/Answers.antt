@@ -5,7 +5,6 @@ use Prim.Native.Nat.{ℕ}
 use borrow.Author.Tests.{eq-eqb, ne_eqb}
 use lib.Dec.{eqb}
 use Rattle.annexg.specs.Sync.{is_sync}
-use borrow.Author.Rules.{rules}
 use Rattle.annexg.proofs.is_sync.Goals as goal
 
 -- a half word unlike a code that was handed out is unlike the code due
@@ -23,25 +22,25 @@ returns-then-first-sync_code-2 c = simp (unlike c.sync_code.ensures c.if-first-s
 pub returns-then-first-sync_code-3 : goal.returns-then-first-sync_code-3
 unfolding is_sync
 returns-then-first-sync_code-3 c = simp (
-      unlike c.sync_code.ensures c.if-first-sync_code.false,
-      unlike c.sync_code-2.ensures c.if-first-sync_code-2.false,
-      eq-eqb _ _ (c.if-first-sync_code-3.true ∙ c.sync_code-3.ensures),
-    )
+  unlike c.sync_code.ensures c.if-first-sync_code.false,
+  unlike c.sync_code-2.ensures c.if-first-sync_code-2.false,
+  eq-eqb _ _ (c.if-first-sync_code-3.true ∙ c.sync_code-3.ensures),
+)
 
 pub returns-then-first-sync_code-4 : goal.returns-then-first-sync_code-4
 unfolding is_sync
 returns-then-first-sync_code-4 c = simp (
-      unlike c.sync_code.ensures c.if-first-sync_code.false,
-      unlike c.sync_code-2.ensures c.if-first-sync_code-2.false,
-      unlike c.sync_code-3.ensures c.if-first-sync_code-3.false,
-      eq-eqb _ _ (c.if-first-sync_code-4.true ∙ c.sync_code-4.ensures),
-    )
+  unlike c.sync_code.ensures c.if-first-sync_code.false,
+  unlike c.sync_code-2.ensures c.if-first-sync_code-2.false,
+  unlike c.sync_code-3.ensures c.if-first-sync_code-3.false,
+  eq-eqb _ _ (c.if-first-sync_code-4.true ∙ c.sync_code-4.ensures),
+)
 
 pub returns : goal.returns
 unfolding is_sync
 returns c = simp (
-      unlike c.sync_code.ensures c.if-first-sync_code.false,
-      unlike c.sync_code-2.ensures c.if-first-sync_code-2.false,
-      unlike c.sync_code-3.ensures c.if-first-sync_code-3.false,
-      unlike c.sync_code-4.ensures c.if-first-sync_code-4.false,
-    )
+  unlike c.sync_code.ensures c.if-first-sync_code.false,
+  unlike c.sync_code-2.ensures c.if-first-sync_code-2.false,
+  unlike c.sync_code-3.ensures c.if-first-sync_code-3.false,
+  unlike c.sync_code-4.ensures c.if-first-sync_code-4.false,
+)

@@ -3,7 +3,6 @@ use mathlib.Core.Path.{◌≡◌, refl, ap, ◌∙◌}
 use mathlib.Core.Bool.{Bool}
 use Prim.Native.Nat.{ℕ, ◌<◌, ◌≤◌}
 use native.Mathlib.Omega.{arith}
-use borrow.Author.Rules.{rules}
 use Rattle.annexg.specs.Read.{both_zero, read_given, read_word, reading_number}
 use Rattle.annexg.specs.Inner.{read_from}
 use Rattle.annexg.specs.declared.Reading.{Reading}

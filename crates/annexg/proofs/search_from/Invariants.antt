@@ -1,15 +1,8 @@
 -- `annexg::search_from` meets its contract. The search is followed entry by entry: what is left of it from each place on is `read_from`.
 -- Assumes nothing.
-use mathlib.Core.Path.{◌≡◌, sym, ap, ◌∙◌}
-use mathlib.Core.Bool.{true, false}
-use Prim.Native.Nat.{ℕ, suc, ◌+◌, ◌*◌, ◌-◌, ◌≤◌, ◌<◌}
-use native.Mathlib.Omega.{arith}
-use borrow.Author.Rules.{rules}
-use lib.ListN.{length, get_or}
-use Rattle.annexg.specs.Read.{table_of, fits_of, reading_number}
+use mathlib.Core.Path.{◌≡◌}
+use Prim.Native.Nat.{◌+◌, ◌*◌, ◌-◌, ◌≤◌}
 use Rattle.annexg.specs.Inner.{read_from}
-use Rattle.annexg.specs.declared.Reading.TheVariants.{Byte}
-use Rattle.annexg.proofs.Search.{from_unfit, from_fit, from_end, from_past}
 use Rattle.annexg.proofs.search_from.Given as goal
 
 abbrev pub invariant-loop-s : goal.invariant-loop-s

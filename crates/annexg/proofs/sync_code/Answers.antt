@@ -8,7 +8,6 @@ use lib.ListN.{get_or, get_or-eq_default}
 use Rattle.lists.specs.Count.{bit}
 use Rattle.annexg.specs.Sync.{sync_table}
 use Rattle.annexg.proofs.Sync.{length-sync}
-use borrow.Author.Rules.{rules}
 use Rattle.annexg.proofs.sync_code.Goals as goal
 
 pub returns-then-at-lt32 : goal.returns-then-at-lt32

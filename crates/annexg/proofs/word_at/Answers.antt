@@ -2,7 +2,6 @@
 -- Assumes nothing.
 use native.Mathlib.Omega.{arith}
 use Rattle.annexg.proofs.Figure.{entry_below}
-use borrow.Author.Rules.{rules}
 use Rattle.annexg.proofs.word_at.Goals as goal
 
 pub overflow_cast-result : goal.overflow_cast-result

@@ -1,8 +1,6 @@
 -- `dataframe::agrees` meets its contract: all bytes passed are the same. Assumes nothing.
-use mathlib.Core.Path.{◌≡◌, sym}
-use Prim.Native.Nat.{ℕ, ◌≤◌, ◌<◌, ◌-◌}
+use mathlib.Core.Path.{sym}
 use borrow.Author.Count.{below_more}
-use lib.ListN.{length, get_or}
 use Rattle.dataframe.proofs.Checked.{agree-not, agree_all}
 use native.Mathlib.Omega.{arith}
 use Rattle.dataframe.proofs.agrees.Goals as goal

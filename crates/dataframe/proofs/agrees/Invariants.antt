@@ -1,10 +1,7 @@
 -- `dataframe::agrees` meets its contract: all bytes passed are the same. Assumes nothing.
-use mathlib.Core.Path.{◌≡◌, sym}
+use mathlib.Core.Path.{◌≡◌}
 use Prim.Native.Nat.{ℕ, ◌≤◌, ◌<◌, ◌-◌}
-use borrow.Author.Count.{below_more}
 use lib.ListN.{length, get_or}
-use Rattle.dataframe.proofs.Checked.{agree-not, agree_all}
-use native.Mathlib.Omega.{arith}
 use Rattle.dataframe.proofs.agrees.Given as goal
 
 abbrev pub invariant-loop-i : goal.invariant-loop-i

@@ -1,8 +1,6 @@
 -- `dataframe::check_frame` meets its contract, case by case. Assumes nothing.
 use mathlib.Core.Path.{sym, ◌∙◌}
-use borrow.Author.Tests.{not-true, not-false}
 use Rattle.dataframe.proofs.Checked.{refusal_4, refusal_5, refusal_6, refusal_none}
-use borrow.Author.Rules.{rules}
 use Rattle.dataframe.proofs.check_frame.Goals as goal
 
 pub returns-then-not-ied_passes : goal.returns-then-not-ied_passes

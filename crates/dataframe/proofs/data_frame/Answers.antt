@@ -1,7 +1,6 @@
 -- `dataframe::data_frame` meets its contract: head, main data and EDC, put in one after the other. Assumes nothing.
 use mathlib.Core.Path.{refl}
 use Rattle.dataframe.proofs.Framed.{data_built}
-use borrow.Author.Rules.{rules}
 use Rattle.dataframe.proofs.data_frame.Goals as goal
 
 pub returns : goal.returns

@@ -1,6 +1,5 @@
 -- `dataframe::head` meets its contract. Assumes nothing.
 use Rattle.dataframe.proofs.Framed.{head_built}
-use borrow.Author.Rules.{rules}
 use Rattle.dataframe.proofs.head.Goals as goal
 
 pub returns : goal.returns

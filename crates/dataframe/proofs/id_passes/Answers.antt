@@ -1,8 +1,6 @@
 -- `dataframe::id_passes` meets its contract, case by case. Assumes nothing.
 use mathlib.Core.Path.{sym, ◌∙◌}
 use native.Mathlib.Omega.{arith}
-use borrow.Author.Rules.{rules}
-use borrow.Author.Tests.{not-true, not-false}
 use Rattle.dataframe.proofs.Checked.{id_first, id_number, id_prohibited, id_unlike, id_passes_lem}
 use Rattle.dataframe.proofs.id_passes.Goals as goal
 

@@ -1,6 +1,5 @@
 -- `dataframe::ied_passes` meets its contract. Assumes nothing.
 use Rattle.dataframe.specs.Checks.{ied_passes}
-use borrow.Author.Rules.{rules}
 use Rattle.dataframe.proofs.ied_passes.Goals as goal
 
 pub returns : goal.returns

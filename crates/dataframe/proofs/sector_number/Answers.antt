@@ -1,7 +1,5 @@
 -- `dataframe::sector_number` meets its contract. Assumes nothing.
 use Rattle.dataframe.specs.Checks.{number_of}
-use borrow.Author.Rules.{rules}
-use native.Mathlib.Omega.{arith}
 use Rattle.dataframe.proofs.sector_number.Goals as goal
 
 pub returns : goal.returns

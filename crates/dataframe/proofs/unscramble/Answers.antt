@@ -3,7 +3,6 @@ use mathlib.Core.Path.{ap, ◌∙◌}
 use Prim.Native.Nat.{ℕ}
 use Rattle.scrambling.specs.Scrambling.{scrambled}
 use Rattle.dataframe.specs.Checks.{unscrambled}
-use borrow.Author.Rules.{rules}
 use Rattle.dataframe.proofs.unscramble.Goals as goal
 
 pub returns : goal.returns

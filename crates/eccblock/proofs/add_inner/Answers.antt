@@ -1,14 +1,12 @@
 -- `eccblock::add_inner` meets its contract: each turn adds the parity of one row. Assumes nothing.
 use mathlib.Core.Path.{◌≡◌, sym, ap, ◌∙◌}
-use mathlib.Core.List.{List}
-use Prim.Native.Nat.{ℕ, ◌+◌, ◌*◌, ◌≤◌, ◌-◌}
+use Prim.Native.Nat.{ℕ, ◌+◌, ◌*◌, ◌-◌}
 use native.Mathlib.Omega.{arith}
 use borrow.Author.Rules.{rules}
 use lib.ListN.{length, take, drop}
 use lib.Seq.{length-sets}
-use Rattle.layout.specs.Lengths.{row_count, column_count, row_size, inner_size, block_size}
+use Rattle.layout.specs.Lengths.{row_count, column_count, row_size, inner_size}
 use Rattle.codes.specs.Parity.{parity}
-use Rattle.eccblock.specs.Inner.{Rows}
 use Rattle.eccblock.proofs.Staged.{rows_more}
 use Rattle.eccblock.proofs.add_inner.Goals as goal
 

@@ -1,19 +1,14 @@
 -- `eccblock::add_inner` meets its contract: each turn adds the parity of one row. Assumes nothing.
-use mathlib.Core.Path.{◌≡◌, sym, ap, ◌∙◌}
+use mathlib.Core.Path.{◌≡◌}
 use mathlib.Core.List.{List}
-use Prim.Native.Nat.{ℕ, ◌+◌, ◌*◌, ◌≤◌, ◌-◌}
-use native.Mathlib.Omega.{arith}
-use borrow.Author.Rules.{rules}
-use lib.ListN.{length, take, drop}
-use lib.Seq.{length-sets}
-use Rattle.layout.specs.Lengths.{row_count, column_count, row_size, inner_size, block_size}
-use Rattle.codes.specs.Parity.{parity}
+use Prim.Native.Nat.{ℕ, ◌≤◌, ◌-◌}
+use lib.ListN.{length}
+use Rattle.layout.specs.Lengths.{row_count, block_size}
 use Rattle.eccblock.specs.Inner.{Rows}
-use Rattle.eccblock.proofs.Staged.{rows_more}
 use Rattle.eccblock.proofs.add_inner.Given as goal
 
 abbrev pub invariant-loop-q : goal.invariant-loop-q
-invariant-loop-q l =     (l.q ≤ row_count) × (length l.out ≡ block_size)
+invariant-loop-q l = (l.q ≤ row_count) × (length l.out ≡ block_size)
     × ((main : List ℕ) (first info : ℕ) → Rows main first info 0 l.initial.out → Rows main first info l.q l.out)
 
 abbrev pub decreases-loop-q : goal.decreases-loop-q

@@ -1,15 +1,7 @@
 -- `eccblock::add_outer` meets its contract: each turn adds the parity of one column. Assumes nothing.
 use mathlib.Core.Path.{◌≡◌, sym, ◌∙◌}
-use mathlib.Core.List.{List}
-use Prim.Native.Nat.{ℕ, ◌≤◌, ◌-◌}
 use native.Mathlib.Omega.{arith}
-use borrow.Author.Rules.{rules}
-use lib.ListN.{length, take}
-use Rattle.layout.specs.Lengths.{sector_count, data_rows, column_count, outer_size, block_size}
-use Rattle.layout.specs.Rows.{column_of}
-use Rattle.codes.specs.Parity.{parity}
-use Rattle.division.specs.Inner.{beside}
-use Rattle.eccblock.specs.Inner.{Frames, Columns}
+use Rattle.layout.specs.Lengths.{column_count}
 use Rattle.eccblock.proofs.Staged.{outer_bytes, columns_none, columns_more}
 use Rattle.eccblock.proofs.add_outer.Goals as goal
 

@@ -1,6 +1,5 @@
 -- `eccblock::fill_block` meets its contract: the three stages one after the other. Assumes nothing.
 use Rattle.eccblock.proofs.Staged.{rows_none, rows_all}
-use borrow.Author.Rules.{rules}
 use Rattle.eccblock.proofs.fill_block.Goals as goal
 
 pub returns : goal.returns

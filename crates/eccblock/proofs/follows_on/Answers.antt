@@ -1,6 +1,5 @@
 -- `eccblock::follows_on` meets its contract. Assumes nothing.
 use mathlib.Core.Path.{sym, ap}
-use borrow.Author.Rules.{rules}
 use Rattle.eccblock.specs.Encode.{follows}
 use Rattle.eccblock.specs.declared.Previous.{Previous}
 use Rattle.eccblock.proofs.follows_on.Goals as goal

@@ -1,7 +1,5 @@
 -- `eccblock::judge` meets its contract, case by case. Assumes nothing.
 use mathlib.Core.Path.{sym, ◌∙◌}
-use borrow.Author.Rules.{rules}
-use borrow.Author.Tests.{not-true, not-false}
 use Rattle.eccblock.proofs.Refusals.{prohibited, not-following, following}
 use Rattle.eccblock.proofs.judge.Goals as goal
 

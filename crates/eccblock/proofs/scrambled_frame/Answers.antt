@@ -6,7 +6,6 @@ use Rattle.layout.specs.Lengths.{frame_main_size}
 use Rattle.scrambling.specs.Scrambling.{scrambled}
 use Rattle.dataframe.specs.Frame.{data_frame}
 use Rattle.eccblock.specs.Block.{frame}
-use borrow.Author.Rules.{rules}
 use native.Mathlib.Omega.{arith}
 use Rattle.eccblock.proofs.scrambled_frame.Goals as goal
 

@@ -1,12 +1,10 @@
 -- `eccblock::store_frame` meets its contract: each turn stores one row. Assumes nothing.
 use mathlib.Core.Path.{◌≡◌}
-use Prim.Native.Nat.{◌+◌, ◌*◌, ◌≤◌, ◌-◌}
+use Prim.Native.Nat.{◌+◌, ◌*◌, ◌-◌}
 use native.Mathlib.Omega.{arith}
 use lib.ListN.{drop, length-take}
-use Rattle.octets.specs.Inner.{Stored}
 use Rattle.octets.proofs.Copies.{stored_none}
-use Rattle.layout.specs.Lengths.{frame_size, frame_rows, column_count}
-use Rattle.layout.specs.Inner.{frame_place}
+use Rattle.layout.specs.Lengths.{frame_size, column_count}
 use Rattle.eccblock.proofs.Staged.{frame_more}
 use Rattle.eccblock.proofs.store_frame.Goals as goal
 
@@ -20,8 +18,7 @@ put-requires c =
 
 pub loop-r-preserved : goal.loop-r-preserved
 loop-r-preserved c =
-    let a = c.args in
-    (
+    let a = c.args in (
       omega arith,
       frame_more a.k c.loop-r.r a.scrambled.now a.out.now c.loop-r.out _ c.requires.0 c.requires.2 c.requires.1 (omega arith)
           c.put.ensures c.loop-r.invariant.1,

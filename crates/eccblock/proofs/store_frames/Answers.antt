@@ -1,9 +1,7 @@
 -- `eccblock::store_frames` meets its contract: each turn stores one frame. Assumes nothing.
 use mathlib.Core.Path.{◌≡◌, sym, ◌∙◌}
-use Prim.Native.Nat.{◌≤◌, ◌-◌}
 use borrow.Author.Rules.{rules}
 use Rattle.layout.specs.Lengths.{sector_count}
-use Rattle.eccblock.specs.Inner.{Frames}
 use Rattle.eccblock.proofs.Staged.{frames-none, frames_more}
 use native.Mathlib.Omega.{arith}
 use Rattle.eccblock.proofs.store_frames.Goals as goal
@@ -16,8 +14,7 @@ store_frame-requires c = (search rules, omega arith, c.loop-k.invariant.1.size)
 
 pub loop-k-preserved : goal.loop-k-preserved
 loop-k-preserved c =
-    let a = c.args in
-    (
+    let a = c.args in (
       omega arith,
       frames_more a.main.now a.first a.info c.loop-k.k _ c.loop-k.out _ c.scrambled_frame-scrambled.ensures c.store_frame.ensures c.loop-k.invariant.1,
     )

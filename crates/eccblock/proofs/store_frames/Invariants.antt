@@ -1,11 +1,7 @@
 -- `eccblock::store_frames` meets its contract: each turn stores one frame. Assumes nothing.
-use mathlib.Core.Path.{◌≡◌, sym, ◌∙◌}
 use Prim.Native.Nat.{◌≤◌, ◌-◌}
-use borrow.Author.Rules.{rules}
 use Rattle.layout.specs.Lengths.{sector_count}
 use Rattle.eccblock.specs.Inner.{Frames}
-use Rattle.eccblock.proofs.Staged.{frames-none, frames_more}
-use native.Mathlib.Omega.{arith}
 use Rattle.eccblock.proofs.store_frames.Given as goal
 
 abbrev pub invariant-loop-k : goal.invariant-loop-k

@@ -1,5 +1,4 @@
 -- `edc::edc` meets its contract. Assumes nothing.
-use borrow.Author.Rules.{rules}
 use Rattle.edc.specs.Edc.{edc_of}
 use Rattle.edc.proofs.edc.Goals as goal
 

@@ -2,7 +2,6 @@
 use native.Mathlib.Omega.{arith}
 use Rattle.field.specs.Field.{add}
 use Rattle.edc.proofs.Remainders.{table_four}
-use borrow.Author.Rules.{rules}
 use Rattle.edc.proofs.edc_four.Goals as goal
 
 pub returns : goal.returns

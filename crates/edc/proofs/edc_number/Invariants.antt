@@ -1,11 +1,8 @@
 -- `edc::edc_number` meets its contract: what is left to divide in gives the same remainder at every turn. Assumes nothing.
-use mathlib.Core.Path.{◌≡◌, refl, sym, ap, ◌∙◌}
-use Prim.Native.Nat.{ℕ, ◌+◌, ◌%◌, ◌≤◌, ◌-◌}
+use mathlib.Core.Path.{◌≡◌}
+use Prim.Native.Nat.{◌%◌, ◌≤◌, ◌-◌}
 use lib.ListN.{length, drop}
-use borrow.Author.Rules.{rules}
-use native.Mathlib.Omega.{arith}
 use Rattle.edc.specs.Edc.{edc_from}
-use Rattle.edc.proofs.Steps.{edc_next_four, edc_end}
 use Rattle.edc.proofs.edc_number.Given as goal
 
 abbrev pub invariant-loop-i : goal.invariant-loop-i

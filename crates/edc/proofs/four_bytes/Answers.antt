@@ -3,7 +3,6 @@ use mathlib.Core.Path.{◌≡◌}
 use mathlib.Core.List.{[], ◌∷◌}
 use Prim.Native.Nat.{ℕ, ◌/◌, ◌%◌}
 use Rattle.edc.specs.Edc.{four_bytes}
-use borrow.Author.Rules.{rules}
 use Rattle.edc.proofs.four_bytes.Goals as goal
 
 four_built : (r a b c d : ℕ) → a ≡ r / 16777216 % 256 → b ≡ r / 65536 % 256 → c ≡ r / 256 % 256 → d ≡ r % 256 → a ∷ b ∷ c ∷ d ∷ [] ≡ four_bytes r

@@ -1,7 +1,6 @@
 -- `edc::index` meets its contract. Assumes nothing.
 use mathlib.Core.Path.{ap}
 use lib.Bits.{bit_xor, xor_lt}
-use borrow.Author.Rules.{rules}
 use native.Mathlib.Omega.{arith}
 use Rattle.field.specs.Field.{add}
 use Rattle.edc.proofs.index.Goals as goal
@@ -12,6 +11,6 @@ overflow_cast-result c = omega (arith, xor_lt 8 c.args.r c.wide.result c.require
 pub returns : goal.returns
 unfolding add
 returns c = record {
-      value = ap (bit_xor c.args.r) c.wide.ensures.value;
-      upper_bound = xor_lt 8 c.args.r c.wide.result c.requires c.wide.ensures.upper_bound;
-    }
+  value = ap (bit_xor c.args.r) c.wide.ensures.value;
+  upper_bound = xor_lt 8 c.args.r c.wide.result c.requires c.wide.ensures.upper_bound;
+}

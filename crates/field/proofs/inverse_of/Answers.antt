@@ -3,7 +3,6 @@ use mathlib.Core.Path.{sym, ap, ◌∙◌}
 use Prim.Native.Nat.{ℕ}
 use native.Mathlib.Omega.{arith}
 use lib.ListN.{get_or}
-use borrow.Author.Rules.{rules}
 use Rattle.field.specs.Field.{inverse}
 use Rattle.field.proofs.Inverse.{inverse-zero}
 use Rattle.field.proofs.Tables.{log-lt, inverse-log}
@@ -14,10 +13,10 @@ returns-then-a-eq0 c = sym (ap inverse c.if-a-eq0.true ∙ inverse-zero)
 
 pub overflow_sub-result : goal.overflow_sub-result
 overflow_sub-result c = omega (
-      arith,
-      log-lt c.args.logs.now c.requires c.args.a c.index-i.result c.if-a-eq0.false (omega arith)
-          (c.index-i.ensures ∙ ap (λ (x : ℕ). get_or c.args.logs.now x 0) c.index.ensures),
-    )
+  arith,
+  log-lt c.args.logs.now c.requires c.args.a c.index-i.result c.if-a-eq0.false (omega arith)
+      (c.index-i.ensures ∙ ap (λ (x : ℕ). get_or c.args.logs.now x 0) c.index.ensures),
+)
 
 pub returns : goal.returns
 returns c = inverse-log c.args.logs.now c.requires c.args.a c.index-i.result c.if-a-eq0.false (omega arith)

@@ -1,7 +1,6 @@
 -- `field::power` meets its contract: at the head of each turn the accumulator times base^left is the power asked for. Assumes nothing.
 use mathlib.Core.Path.{◌≡◌, sym, ap, ap₂, ◌∙◌}
-use Prim.Native.Nat.{ℕ, ◌/◌, ◌<◌}
-use borrow.Author.Rules.{rules}
+use Prim.Native.Nat.{ℕ, ◌/◌}
 use native.Mathlib.Omega.{arith}
 use Rattle.field.specs.Field.{mul, pow}
 use Rattle.field.proofs.Field.{one-mul, mul-one}
@@ -20,7 +19,7 @@ pub loop-left-preserved : goal.loop-left-preserved
 loop-left-preserved c =
     let squared = c.product-base.ensures in
     elim c.if-left-eq1.branch [
-      then-left-eq1 w ↦ (
+      | then-left-eq1 w ↦ (
         omega (arith, w.accumulator-is),
         omega arith,
         ap₂ (λ x y. mul x (pow y (c.loop-left.left / 2))) (w.accumulator-is ∙ w.product-accumulator.ensures) squared

@@ -4,7 +4,6 @@ use mathlib.Core.List.{List}
 use Prim.Native.Nat.{ℕ, ◌+◌, ◌<◌}
 use native.Mathlib.Omega.{arith}
 use lib.ListN.{get_or}
-use borrow.Author.Rules.{rules}
 use Rattle.field.specs.Field.{mul}
 use Rattle.field.proofs.Field.{zero-mul, mul-zero}
 use Rattle.field.proofs.Tables.{log-lt, product_log}

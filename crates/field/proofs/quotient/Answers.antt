@@ -1,6 +1,5 @@
 -- `field::quotient` meets its contract. Assumes nothing.
 use mathlib.Core.Path.{ap, ◌∙◌}
-use borrow.Author.Rules.{rules}
 use Rattle.field.specs.Field.{mul}
 use Rattle.field.proofs.quotient.Goals as goal
 

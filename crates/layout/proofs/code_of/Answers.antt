@@ -4,7 +4,6 @@ use mathlib.Core.List.{List}
 use Prim.Native.Nat.{ℕ, ◌%◌}
 use native.Mathlib.Omega.{arith}
 use lib.ListN.{get_or}
-use borrow.Author.Rules.{rules}
 use Rattle.layout.specs.Sectors.{code_of, frame_codes}
 use Rattle.layout.proofs.Places.{code_small}
 use Rattle.layout.proofs.code_of.Goals as goal

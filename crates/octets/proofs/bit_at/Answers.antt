@@ -2,7 +2,6 @@
 -- Assumes nothing.
 use Rattle.octets.specs.Halves.{bit_at}
 use Rattle.octets.proofs.Halves.{odd_bit}
-use borrow.Author.Rules.{rules}
 use Rattle.octets.proofs.bit_at.Goals as goal
 
 pub returns : goal.returns

@@ -1,9 +1,6 @@
 -- `octets::half_at` meets its contract. Assumes nothing.
 use mathlib.Core.Path.{refl}
-use Prim.Native.Nat.{◌+◌, ◌*◌}
-use native.Mathlib.Omega.{arith}
 use Rattle.octets.specs.Halves.{half_at}
-use borrow.Author.Rules.{rules}
 use Rattle.octets.proofs.half_at.Goals as goal
 
 pub returns : goal.returns

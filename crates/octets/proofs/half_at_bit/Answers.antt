@@ -1,6 +1,5 @@
 -- `octets::half_at_bit` meets its contract. Assumes nothing.
 use Rattle.octets.proofs.BitsAt.{bits_of_three}
-use borrow.Author.Rules.{rules}
 use Rattle.octets.proofs.half_at_bit.Goals as goal
 
 pub returns : goal.returns

@@ -1,11 +1,8 @@
 -- `scrambling::first_bytes` meets its contract: each turn stores one byte, and the register is the one at it. Assumes nothing.
 use mathlib.Core.Path.{◌≡◌, refl, ap, sym, ◌∙◌}
-use Prim.Native.Nat.{ℕ, ◌≤◌, ◌<◌, ◌-◌, ◌+◌, ◌*◌, ◌%◌}
-use lib.ListN.{length}
-use borrow.Author.Rules.{rules}
+use Prim.Native.Nat.{ℕ, ◌+◌, ◌*◌, ◌%◌}
 use native.Mathlib.Omega.{arith}
-use Rattle.lists.proofs.Fill.{Upto, upto_none, upto_more}
-use Rattle.layout.specs.Lengths.{frame_main_size}
+use Rattle.lists.proofs.Fill.{upto_none, upto_more}
 use Rattle.scrambling.specs.Scrambling.{preset_of, register, scrambling_byte}
 use Rattle.scrambling.proofs.Scrambled.{register-add}
 use Rattle.scrambling.proofs.first_bytes.Goals as goal

@@ -5,7 +5,6 @@ use Prim.Native.Nat.{ℕ, ◌/◌, ◌%◌, ◌<◌}
 use lib.ListN.{get_or}
 use Rattle.scrambling.specs.Scrambling.{preset_of}
 use Rattle.scrambling.proofs.Scrambled.{preset_lt}
-use borrow.Author.Rules.{rules}
 use Rattle.scrambling.proofs.preset.Goals as goal
 
 pub returns : goal.returns

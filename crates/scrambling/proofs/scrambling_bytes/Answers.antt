@@ -1,13 +1,12 @@
 -- `scrambling::scrambling_bytes` meets its contract: each turn stores one byte. Assumes nothing.
 use mathlib.Core.Path.{◌≡◌, refl, ap, ap₂, sym, ◌∙◌}
-use Prim.Native.Nat.{ℕ, ◌≤◌, ◌-◌, ◌+◌}
+use Prim.Native.Nat.{ℕ, ◌-◌, ◌+◌}
 use lib.Bits.{bit_xor}
-use lib.ListN.{length}
 use borrow.Author.Rules.{rules}
 use native.Mathlib.Omega.{arith}
 use Rattle.field.specs.Field.{add}
 use Rattle.layout.specs.Lengths.{frame_main_size}
-use Rattle.lists.proofs.Fill.{Upto, upto_more, upto_all}
+use Rattle.lists.proofs.Fill.{upto_more, upto_all}
 use Rattle.scrambling.specs.Scrambling.{preset_of, scrambling_byte}
 use Rattle.scrambling.proofs.Scrambled.{preset_lt}
 use Rattle.scrambling.proofs.Register.{byte_recurs}

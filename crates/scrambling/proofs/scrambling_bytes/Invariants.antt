@@ -1,16 +1,10 @@
 -- `scrambling::scrambling_bytes` meets its contract: each turn stores one byte. Assumes nothing.
-use mathlib.Core.Path.{◌≡◌, refl, ap, ap₂, sym, ◌∙◌}
-use Prim.Native.Nat.{ℕ, ◌≤◌, ◌-◌, ◌+◌}
-use lib.Bits.{bit_xor}
+use mathlib.Core.Path.{◌≡◌}
+use Prim.Native.Nat.{◌≤◌, ◌-◌}
 use lib.ListN.{length}
-use borrow.Author.Rules.{rules}
-use native.Mathlib.Omega.{arith}
-use Rattle.field.specs.Field.{add}
 use Rattle.layout.specs.Lengths.{frame_main_size}
-use Rattle.lists.proofs.Fill.{Upto, upto_more, upto_all}
+use Rattle.lists.proofs.Fill.{Upto}
 use Rattle.scrambling.specs.Scrambling.{preset_of, scrambling_byte}
-use Rattle.scrambling.proofs.Scrambled.{preset_lt}
-use Rattle.scrambling.proofs.Register.{byte_recurs}
 use Rattle.scrambling.proofs.scrambling_bytes.Given as goal
 
 abbrev pub invariant-loop-i : goal.invariant-loop-i

@@ -6,7 +6,6 @@ use native.Mathlib.Omega.{arith}
 use Rattle.lists.specs.Fill.{tabulate}
 use Rattle.codes.specs.Word.{syndrome}
 use Rattle.syndromes.proofs.Left.{syndromes_none}
-use borrow.Author.Rules.{rules}
 use Rattle.syndromes.proofs.syndromes10.Goals as goal
 
 pub returns-then-is_zero : goal.returns-then-is_zero

@@ -7,7 +7,6 @@ use Rattle.lists.specs.Fill.{tabulate}
 use Rattle.codes.specs.Word.{syndrome}
 use Rattle.division.proofs.Unpacked.{unpacked-take}
 use Rattle.syndromes.proofs.Left.{syndromes_none}
-use borrow.Author.Rules.{rules}
 use Rattle.syndromes.proofs.syndromes16.Goals as goal
 
 pub returns-then-is_zero : goal.returns-then-is_zero

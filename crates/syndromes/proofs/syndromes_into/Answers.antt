@@ -1,9 +1,8 @@
 -- `syndromes::syndromes_into` meets its contract. Assumes nothing.
 use mathlib.Core.Path.{◌≡◌, refl, ap, ◌∙◌}
-use Prim.Native.Nat.{◌-◌, ◌≤◌}
 use lib.ListN.{length}
 use Rattle.field.specs.Field.{pow}
-use Rattle.lists.proofs.Fill.{Upto, upto_none, upto_more, upto_all}
+use Rattle.lists.proofs.Fill.{upto_none, upto_more, upto_all}
 use Rattle.codes.specs.Word.{value_at, syndrome}
 use native.Mathlib.Omega.{arith}
 use Rattle.syndromes.proofs.syndromes_into.Goals as goal
@@ -19,13 +18,12 @@ value_of-requires c = c.requires.log_table
 
 pub loop-i-preserved : goal.loop-i-preserved
 unfolding syndrome
-loop-i-preserved c =
-    (
-      omega arith,
-      omega arith,
-      upto_more _ c.args.out.now c.loop-i.out c.loop-i.i c.value_of.result (omega arith)
-          (c.value_of.ensures ∙ ap (value_at c.args.word.now) (c.alpha_power-x.ensures ∙ ap (pow 2) c.loop-i.invariant.1)) c.loop-i.invariant.2,
-    )
+loop-i-preserved c = (
+  omega arith,
+  omega arith,
+  upto_more _ c.args.out.now c.loop-i.out c.loop-i.i c.value_of.result (omega arith)
+      (c.value_of.ensures ∙ ap (value_at c.args.word.now) (c.alpha_power-x.ensures ∙ ap (pow 2) c.loop-i.invariant.1)) c.loop-i.invariant.2,
+)
 
 pub shape_of-out : goal.shape_of-out
 shape_of-out c = c.loop-i.invariant.2.same

@@ -1,11 +1,9 @@
 -- `syndromes::syndromes_into` meets its contract. Assumes nothing.
-use mathlib.Core.Path.{◌≡◌, refl, ap, ◌∙◌}
+use mathlib.Core.Path.{◌≡◌}
 use Prim.Native.Nat.{◌-◌, ◌≤◌}
 use lib.ListN.{length}
-use Rattle.field.specs.Field.{pow}
-use Rattle.lists.proofs.Fill.{Upto, upto_none, upto_more, upto_all}
-use Rattle.codes.specs.Word.{value_at, syndrome}
-use native.Mathlib.Omega.{arith}
+use Rattle.lists.proofs.Fill.{Upto}
+use Rattle.codes.specs.Word.{syndrome}
 use Rattle.syndromes.proofs.syndromes_into.Given as goal
 
 abbrev pub invariant-loop-i : goal.invariant-loop-i

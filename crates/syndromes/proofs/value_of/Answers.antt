@@ -1,9 +1,7 @@
 -- `syndromes::value_of` meets its contract: Horner's rule, byte by byte. Assumes nothing.
-use mathlib.Core.Path.{◌≡◌, refl, sym, ◌∙◌}
-use Prim.Native.Nat.{◌-◌, ◌≤◌}
-use lib.ListN.{length, drop}
+use mathlib.Core.Path.{refl, sym, ◌∙◌}
 use Rattle.field.specs.Field.{add}
-use Rattle.codes.specs.Word.{value_from, value_at}
+use Rattle.codes.specs.Word.{value_at}
 use Rattle.codes.proofs.Words.{value_from_next, value_from_end}
 use native.Mathlib.Omega.{arith}
 use Rattle.syndromes.proofs.value_of.Goals as goal

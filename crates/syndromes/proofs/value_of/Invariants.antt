@@ -1,11 +1,8 @@
 -- `syndromes::value_of` meets its contract: Horner's rule, byte by byte. Assumes nothing.
-use mathlib.Core.Path.{◌≡◌, refl, sym, ◌∙◌}
+use mathlib.Core.Path.{◌≡◌}
 use Prim.Native.Nat.{◌-◌, ◌≤◌}
 use lib.ListN.{length, drop}
-use Rattle.field.specs.Field.{add}
 use Rattle.codes.specs.Word.{value_from, value_at}
-use Rattle.codes.proofs.Words.{value_from_next, value_from_end}
-use native.Mathlib.Omega.{arith}
 use Rattle.syndromes.proofs.value_of.Given as goal
 
 abbrev pub invariant-loop-i : goal.invariant-loop-i

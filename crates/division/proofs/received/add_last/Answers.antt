@@ -1,6 +1,5 @@
 -- `received::add_last` meets its contract. Assumes nothing.
 use mathlib.Core.Path.{ap}
-use borrow.Author.Rules.{rules}
 use Rattle.field.specs.Field.{add}
 use Rattle.multiples.specs.Inner.{high, low}
 use Rattle.division.proofs.received.add_last.Goals as goal

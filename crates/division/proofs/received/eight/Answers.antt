@@ -1,6 +1,6 @@
 -- `received::eight` meets its contract. Assumes nothing.
 use mathlib.Core.Path.{◌≡◌, refl, ap, ap₂, ◌∙◌}
-use Prim.Native.Nat.{ℕ, ◌+◌, ◌*◌, ◌-◌, ◌<◌, ◌≤◌}
+use Prim.Native.Nat.{ℕ, ◌+◌, ◌*◌, ◌<◌}
 use native.Mathlib.Omega.{arith}
 use mathlib.Core.List.{List}
 use lib.ListN.{get_or}
@@ -23,7 +23,7 @@ pub overflow_add-a : goal.overflow_add-a
 overflow_add-a c = omega (arith, c.requires)
 
 pub overflow_add-x : goal.overflow_add-x
-overflow_add-x c = 
+overflow_add-x c =
     omega (
       arith,
       few c.args.bytes.now c.args.a c.loop-i.i c.loop-i.x (λ k. omega (arith, c.type_inv.bytes k)) (omega arith) c.loop-i.invariant.1,

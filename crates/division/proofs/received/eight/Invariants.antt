@@ -1,10 +1,8 @@
 -- `received::eight` meets its contract. Assumes nothing.
-use mathlib.Core.Path.{◌≡◌, refl, ap, ap₂, ◌∙◌}
-use Prim.Native.Nat.{ℕ, ◌+◌, ◌*◌, ◌-◌, ◌<◌, ◌≤◌}
-use native.Mathlib.Omega.{arith}
+use mathlib.Core.Path.{◌≡◌}
+use Prim.Native.Nat.{◌-◌, ◌≤◌}
 use lib.ListN.{get_or}
-use Rattle.multiples.specs.Inner.{top, bytes_as_number}
-use Rattle.multiples.proofs.Numbers.{number_more, number-room}
+use Rattle.multiples.specs.Inner.{bytes_as_number}
 use Rattle.division.proofs.received.eight.Given as goal
 
 abbrev pub invariant-loop-i : goal.invariant-loop-i

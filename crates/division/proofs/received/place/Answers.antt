@@ -2,7 +2,6 @@
 use mathlib.Core.Path.{sym}
 use native.Mathlib.Omega.{arith}
 use lib.ListN.{get_or-eq_default}
-use borrow.Author.Rules.{rules}
 use Rattle.division.proofs.received.place.Goals as goal
 
 pub returns-else-k-bytes : goal.returns-else-k-bytes

@@ -10,7 +10,6 @@ use Rattle.lists.proofs.Bytes.{bytes_of}
 use Rattle.field.specs.Field.{add}
 use Rattle.multiples.specs.Inner.{high, low}
 use Rattle.division.proofs.Words.{left-high, left-low}
-use borrow.Author.Rules.{rules}
 use Rattle.division.proofs.received.remainder_of.Goals as goal
 
 pub slice_bounds-divide-end : goal.slice_bounds-divide-end

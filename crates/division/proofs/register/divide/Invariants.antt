@@ -1,9 +1,7 @@
 -- `register::divide` meets its contract. Assumes nothing.
-use mathlib.Core.Path.{refl}
 use Prim.Native.Nat.{◌-◌, ◌≤◌}
-use native.Mathlib.Omega.{arith}
-use lib.ListN.{length, get_or}
-use Rattle.division.proofs.Division.{Divided, divided_none, divided_more, divided_all}
+use lib.ListN.{length}
+use Rattle.division.proofs.Division.{Divided}
 use Rattle.division.proofs.register.divide.Given as goal
 
 abbrev pub invariant-loop-i : goal.invariant-loop-i

@@ -29,6 +29,6 @@ overflow_mul-result c = rw (is c) (omega (arith, small c))
 
 pub returns : goal.returns
 returns c = record {
-      value = ap (λ (x : ℕ). 2 * x) (is c);
-      top_bound = small c;
-    }
+  value = ap (λ (x : ℕ). 2 * x) (is c);
+  top_bound = small c;
+}

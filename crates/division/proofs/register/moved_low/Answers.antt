@@ -1,6 +1,5 @@
 -- `register::moved_low` meets its contract. Assumes nothing.
 use mathlib.Core.Path.{refl}
-use borrow.Author.Rules.{rules}
 use Rattle.field.specs.Field.{add}
 use Rattle.division.proofs.register.moved_low.Goals as goal
 

@@ -1,9 +1,9 @@
 -- `register::shift_row` meets its contract. Assumes nothing.
 use mathlib.Core.Path.{refl}
-use Prim.Native.Nat.{◌+◌, ◌*◌, ◌-◌, ◌≤◌}
+use Prim.Native.Nat.{◌+◌, ◌*◌}
 use native.Mathlib.Omega.{arith}
-use lib.ListN.{length, get_or, length-set}
-use Rattle.division.proofs.Division.{Shifting, shifting_none, shifting_more, shifting_all}
+use lib.ListN.{get_or, length-set}
+use Rattle.division.proofs.Division.{shifting_none, shifting_more, shifting_all}
 use Rattle.division.proofs.register.shift_row.Goals as goal
 
 pub loop-j-init : goal.loop-j-init

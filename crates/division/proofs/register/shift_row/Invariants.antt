@@ -1,9 +1,7 @@
 -- `register::shift_row` meets its contract. Assumes nothing.
-use mathlib.Core.Path.{refl}
-use Prim.Native.Nat.{◌+◌, ◌*◌, ◌-◌, ◌≤◌}
-use native.Mathlib.Omega.{arith}
-use lib.ListN.{length, get_or, length-set}
-use Rattle.division.proofs.Division.{Shifting, shifting_none, shifting_more, shifting_all}
+use Prim.Native.Nat.{◌-◌, ◌≤◌}
+use lib.ListN.{length}
+use Rattle.division.proofs.Division.{Shifting}
 use Rattle.division.proofs.register.shift_row.Given as goal
 
 abbrev pub invariant-loop-j : goal.invariant-loop-j

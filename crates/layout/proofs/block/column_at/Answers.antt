@@ -1,7 +1,6 @@
 -- `block::column_at` meets its contract: all of the column is taken. Assumes nothing.
 use mathlib.Core.Path.{◌∙◌}
 use native.Mathlib.Omega.{arith}
-use borrow.Author.Rules.{rules}
 use lib.Seq.{take_all}
 use Rattle.layout.specs.Rows.{column_of}
 use Rattle.layout.proofs.Places.{column_length}

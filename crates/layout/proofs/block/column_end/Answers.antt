@@ -1,7 +1,6 @@
 -- `block::column_end` meets its contract: what is taken reaches the end of the column. Assumes nothing.
 use mathlib.Core.Path.{◌∙◌}
 use native.Mathlib.Omega.{arith}
-use borrow.Author.Rules.{rules}
 use lib.ListN.{drop, length-drop}
 use lib.Seq.{take_all}
 use Rattle.layout.specs.Rows.{column_of}

@@ -1,8 +1,8 @@
 -- `block::frame_at` meets its contract: each turn reads one row. Assumes nothing.
 use mathlib.Core.Path.{◌≡◌, refl}
-use Prim.Native.Nat.{◌+◌, ◌*◌, ◌/◌, ◌%◌, ◌≤◌, ◌-◌}
-use lib.ListN.{length, get_or, drop, length-take}
-use Rattle.lists.proofs.Fill.{Upto, upto_none, upto_all}
+use Prim.Native.Nat.{◌+◌, ◌*◌, ◌/◌, ◌%◌, ◌-◌}
+use lib.ListN.{get_or, drop, length-take}
+use Rattle.lists.proofs.Fill.{upto_none, upto_all}
 use Rattle.layout.specs.Rows.{recording_row, frame_of}
 use Rattle.layout.proofs.Places.{frame_read}
 use native.Mathlib.Omega.{arith}
@@ -18,10 +18,10 @@ put-requires c = let a = c.args in
 
 pub loop-r-preserved : goal.loop-r-preserved
 loop-r-preserved c = (
-      omega arith,
-      c.loop-r.invariant.1,
-      frame_read c.args.block.now c.args.k c.loop-r.r _ c.loop-r.frame _ c.requires.block_len (omega arith) (omega arith) c.loop-r.invariant.1 c.put.ensures c.loop-r.invariant.2,
-    )
+  omega arith,
+  c.loop-r.invariant.1,
+  frame_read c.args.block.now c.args.k c.loop-r.r _ c.loop-r.frame _ c.requires.block_len (omega arith) (omega arith) c.loop-r.invariant.1 c.put.ensures c.loop-r.invariant.2,
+)
 
 pub returns : goal.returns
 unfolding frame_of

@@ -1,11 +1,9 @@
 -- `block::frame_at` meets its contract: each turn reads one row. Assumes nothing.
-use mathlib.Core.Path.{◌≡◌, refl}
+use mathlib.Core.Path.{◌≡◌}
 use Prim.Native.Nat.{◌+◌, ◌*◌, ◌/◌, ◌%◌, ◌≤◌, ◌-◌}
-use lib.ListN.{length, get_or, drop, length-take}
-use Rattle.lists.proofs.Fill.{Upto, upto_none, upto_all}
-use Rattle.layout.specs.Rows.{recording_row, frame_of}
-use Rattle.layout.proofs.Places.{frame_read}
-use native.Mathlib.Omega.{arith}
+use lib.ListN.{length, get_or}
+use Rattle.lists.proofs.Fill.{Upto}
+use Rattle.layout.specs.Rows.{recording_row}
 use Rattle.layout.proofs.block.frame_at.Given as goal
 
 abbrev pub invariant-loop-r : goal.invariant-loop-r

@@ -1,7 +1,6 @@
 -- `block::recording_row` meets its contract. Assumes nothing.
 use mathlib.Core.Path.{sym}
 use native.Mathlib.Omega.{arith}
-use borrow.Author.Rules.{rules}
 use Rattle.layout.proofs.Order.{recording_low, recording_high}
 use Rattle.layout.proofs.block.recording_row.Goals as goal
 

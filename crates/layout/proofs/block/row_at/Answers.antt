@@ -1,7 +1,6 @@
 -- `block::row_at` meets its contract. Assumes nothing.
 use mathlib.Core.Path.{refl, ◌∙◌}
 use native.Mathlib.Omega.{arith}
-use borrow.Author.Rules.{rules}
 use Rattle.layout.proofs.Places.{row_part, row_put}
 use Rattle.layout.proofs.block.row_at.Goals as goal
 

@@ -1,12 +1,8 @@
 -- `block::store_column` meets its contract: each turn stores one byte. Assumes nothing.
-use mathlib.Core.Path.{◌≡◌, sym, subst}
-use Prim.Native.Nat.{ℕ, ◌+◌, ◌*◌, ◌≤◌, ◌-◌}
-use native.Mathlib.Omega.{arith}
-use lib.ListN.{length, get_or, set}
+use Prim.Native.Nat.{◌+◌, ◌≤◌, ◌-◌}
+use lib.ListN.{length}
 use Rattle.octets.specs.Inner.{Stored}
-use Rattle.octets.proofs.Copies.{stored_none, stored_more}
 use Rattle.layout.specs.Inner.{column_place}
-use Rattle.layout.proofs.Places.{column_apart, column_lt}
 use Rattle.layout.proofs.block.store_column.Given as goal
 
 abbrev pub invariant-loop-k : goal.invariant-loop-k

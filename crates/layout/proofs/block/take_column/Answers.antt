@@ -1,9 +1,9 @@
 -- `block::take_column` meets its contract: each turn reads one byte. Assumes nothing.
 use mathlib.Core.Path.{◌≡◌, refl, ap, ◌∙◌}
-use Prim.Native.Nat.{ℕ, ◌+◌, ◌*◌, ◌≤◌, ◌-◌}
+use Prim.Native.Nat.{ℕ, ◌+◌, ◌*◌}
 use native.Mathlib.Omega.{arith}
 use lib.ListN.{length, get_or}
-use Rattle.lists.proofs.Fill.{Upto, upto_none, upto_more, upto_all}
+use Rattle.lists.proofs.Fill.{upto_none, upto_more, upto_all}
 use Rattle.layout.specs.Inner.{column_place}
 use Rattle.layout.proofs.Places.{column_part}
 use Rattle.layout.proofs.block.take_column.Goals as goal

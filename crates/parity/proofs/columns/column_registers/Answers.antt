@@ -1,6 +1,6 @@
 -- `columns::column_registers` meets its contract: each turn shifts one row in. Assumes nothing.
 use mathlib.Core.Path.{◌≡◌, sym, ap, ◌∙◌}
-use Prim.Native.Nat.{ℕ, ◌≤◌, ◌-◌, ◌*◌}
+use Prim.Native.Nat.{ℕ, ◌*◌}
 use native.Mathlib.Omega.{arith}
 use Rattle.parity.proofs.Registers.{Divided, divided_none, divided_size, row_length, divided_more}
 use Rattle.parity.proofs.columns.column_registers.Goals as goal
@@ -32,12 +32,11 @@ shift_row-requires c =
     }
 
 pub loop-i-preserved : goal.loop-i-preserved
-loop-i-preserved c =
-    (
-      omega arith,
-      divided_more c.args.block.now c.loop-i.registers _ c.loop-i.i _ c.requires.block_len (omega arith) c.recording_row-start.ensures.value c.recording_row-start.ensures.upper_bound c.loop-i.invariant.1
-          c.shift_row.ensures,
-    )
+loop-i-preserved c = (
+  omega arith,
+  divided_more c.args.block.now c.loop-i.registers _ c.loop-i.i _ c.requires.block_len (omega arith) c.recording_row-start.ensures.value c.recording_row-start.ensures.upper_bound c.loop-i.invariant.1
+      c.shift_row.ensures,
+)
 
 pub returns : goal.returns
 unfolding Divided

@@ -1,8 +1,6 @@
 -- `columns::column_registers` meets its contract: each turn shifts one row in. Assumes nothing.
-use mathlib.Core.Path.{◌≡◌, sym, ap, ◌∙◌}
-use Prim.Native.Nat.{ℕ, ◌≤◌, ◌-◌, ◌*◌}
-use native.Mathlib.Omega.{arith}
-use Rattle.parity.proofs.Registers.{Divided, divided_none, divided_size, row_length, divided_more}
+use Prim.Native.Nat.{◌≤◌, ◌-◌}
+use Rattle.parity.proofs.Registers.{Divided}
 use Rattle.parity.proofs.columns.column_registers.Given as goal
 
 abbrev pub invariant-loop-i : goal.invariant-loop-i

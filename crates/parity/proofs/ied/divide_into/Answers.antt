@@ -1,10 +1,9 @@
 -- `parity::ied::divide_into` meets its contract: what is left to divide in gives the same remainder at every turn. Assumes nothing.
 use mathlib.Core.List.{List}
-use mathlib.Core.Path.{◌≡◌, refl, ap, sym, ◌∙◌}
-use Prim.Native.Nat.{ℕ, ◌≤◌, ◌-◌, ◌+◌}
+use mathlib.Core.Path.{refl, ap, sym, ◌∙◌}
+use Prim.Native.Nat.{ℕ, ◌+◌}
 use native.Mathlib.Omega.{arith}
 use lib.ListN.{length, get_or, drop}
-use borrow.Author.Rules.{rules}
 use Rattle.codes.specs.Parity.{remainder}
 use Rattle.codes.proofs.Shift.{shift_size, remainder_next, remainder_end}
 use Rattle.parity.proofs.ied.divide_into.Goals as goal

@@ -3,10 +3,9 @@ use lib.Bits.{bit_xor}
 use lib.ListN.{length-set, set}
 use Rattle.codes.proofs.Shift.{shift_last, shift_at, shift_is}
 use mathlib.Core.Path.{◌≡◌, refl, ap₂, sym, ◌∙◌}
-use Prim.Native.Nat.{ℕ, ◌≤◌, ◌-◌, ◌+◌}
+use Prim.Native.Nat.{ℕ, ◌-◌, ◌+◌}
 use native.Mathlib.Omega.{arith}
 use lib.ListN.{length}
-use borrow.Author.Rules.{rules}
 use Rattle.field.specs.Field.{add}
 use Rattle.lists.proofs.Fill.{Upto, upto_none, upto_more, upto_all}
 use Rattle.parity.proofs.ied.shift_in.Goals as goal

@@ -1,14 +1,7 @@
 -- `parity::ied::shift_in` meets its contract: each turn writes one entry of `shift_in`, read off the entries not yet written. Assumes nothing.
-use lib.Bits.{bit_xor}
-use lib.ListN.{length-set, set}
-use Rattle.codes.proofs.Shift.{shift_last, shift_at, shift_is}
-use mathlib.Core.Path.{◌≡◌, refl, ap₂, sym, ◌∙◌}
-use Prim.Native.Nat.{ℕ, ◌≤◌, ◌-◌, ◌+◌}
-use native.Mathlib.Omega.{arith}
-use lib.ListN.{length}
-use borrow.Author.Rules.{rules}
-use Rattle.field.specs.Field.{add}
-use Rattle.lists.proofs.Fill.{Upto, upto_none, upto_more, upto_all}
+use Rattle.codes.proofs.Shift.{shift_at}
+use Prim.Native.Nat.{◌≤◌, ◌-◌}
+use Rattle.lists.proofs.Fill.{Upto}
 use Rattle.parity.proofs.ied.shift_in.Given as goal
 
 abbrev pub invariant-loop-k : goal.invariant-loop-k

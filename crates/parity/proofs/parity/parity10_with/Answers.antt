@@ -9,7 +9,6 @@ use Rattle.codes.specs.Parity.{parity}
 use Rattle.codes.proofs.Division.{ten_roots, parity-length, parity-bytes}
 use Rattle.division.specs.Inner.{unpacked}
 use Rattle.division.proofs.Unpacked.{unpacked-register}
-use borrow.Author.Rules.{rules}
 use Rattle.parity.proofs.parity.parity10_with.Goals as goal
 
 pub returns : goal.returns

@@ -8,7 +8,6 @@ use Rattle.codes.specs.Parity.{parity}
 use Rattle.codes.proofs.Division.{sixteen_roots, parity-length, parity-bytes}
 use Rattle.division.specs.Inner.{unpacked}
 use Rattle.division.proofs.Unpacked.{unpacked-whole}
-use borrow.Author.Rules.{rules}
 use Rattle.parity.proofs.parity.parity16_with.Goals as goal
 
 pub returns : goal.returns

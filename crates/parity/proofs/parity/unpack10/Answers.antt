@@ -1,7 +1,6 @@
 -- `parity::unpack10` meets its contract. Assumes nothing.
 use Rattle.lists.specs.Fill.{tabulate_from}
 use Rattle.division.specs.Inner.{number_byte, unpacked}
-use borrow.Author.Rules.{rules}
 use Rattle.parity.proofs.parity.unpack10.Goals as goal
 
 pub returns : goal.returns

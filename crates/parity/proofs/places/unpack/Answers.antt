@@ -1,7 +1,6 @@
 -- `places::unpack` meets its contract. Assumes nothing.
 use Rattle.lists.specs.Fill.{tabulate_from}
 use Rattle.division.specs.Inner.{number_byte, unpacked}
-use borrow.Author.Rules.{rules}
 use Rattle.parity.proofs.places.unpack.Goals as goal
 
 pub returns : goal.returns
