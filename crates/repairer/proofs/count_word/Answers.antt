@@ -1,6 +1,5 @@
 -- `count_word` meets its contract. Assumes nothing.
 use Rattle.repairer.proofs.Counting.{counted_clean, counted-corrected, counted-uncorrectable}
-use borrow.Author.Rules.{rules}
 use Rattle.repairer.proofs.count_word.Goals as goal
 
 pub returns-in-Clean : goal.returns-in-Clean

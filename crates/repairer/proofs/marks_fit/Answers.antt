@@ -1,8 +1,7 @@
 -- `marks_fit` meets its contract: the marks before i are 0 or 1, or one of them is not. Assumes nothing.
 use mathlib.Core.Path.{◌≡◌, refl, sym, ap, ◌∙◌}
 use mathlib.Core.Bool.{Bool, ◌&&◌}
-use mathlib.Core.Logic.{⊎_elim}
-use Prim.Native.Nat.{ℕ, ◌-◌, ◌≤◌}
+use Prim.Native.Nat.{ℕ}
 use native.Mathlib.Numerals.{add-one}
 use native.Mathlib.Omega.{arith}
 use borrow.Author.Tests.{le-leb, lt-leb}
@@ -23,7 +22,7 @@ loop-i-preserved c =
     let test : ℕ → Bool = λ j. leb (get_or m j 0) 1 in
     let next = ap (λ (n : ℕ). below n test) (sym (add-one i)) in
     elim c.if-erasures-i-gt1.branch [
-      then-erasures-i-gt1 bad ↦ (
+      | then-erasures-i-gt1 bad ↦ (
         omega arith,
         bad.fit-is ∙ ap (λ (t : Bool). t && below i test) (sym (lt-leb (get_or m i 0) 1 bad.if-erasures-i-gt1.true)) ∙ next,
       )

@@ -1,15 +1,9 @@
 -- `marks_fit` meets its contract: the marks before i are 0 or 1, or one of them is not. Assumes nothing.
-use mathlib.Core.Path.{◌≡◌, refl, sym, ap, ◌∙◌}
-use mathlib.Core.Bool.{Bool, ◌&&◌}
-use mathlib.Core.Logic.{⊎_elim}
-use Prim.Native.Nat.{ℕ, ◌-◌, ◌≤◌}
-use native.Mathlib.Numerals.{add-one}
-use native.Mathlib.Omega.{arith}
-use borrow.Author.Tests.{le-leb, lt-leb}
+use mathlib.Core.Path.{◌≡◌}
+use Prim.Native.Nat.{◌-◌, ◌≤◌}
 use lib.Dec.{leb}
 use lib.ListN.{length, get_or}
 use Rattle.lists.specs.Test.{below}
-use Rattle.repairer.specs.Answer.{marks_fit}
 use Rattle.repairer.proofs.marks_fit.Given as goal
 
 abbrev pub invariant-loop-i : goal.invariant-loop-i

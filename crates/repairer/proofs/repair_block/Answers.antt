@@ -1,7 +1,5 @@
 -- `repair_block` meets its contract, case by case. Assumes nothing.
 use mathlib.Core.Path.{sym, ◌∙◌}
-use borrow.Author.Rules.{rules}
-use borrow.Author.Tests.{not-true, not-false}
 use Rattle.repairer.specs.Answer.{lengths_fit}
 use Rattle.repairer.proofs.Answers.{length_refused, sizes, mark_refused, stages, frame_refused, handed_out}
 use Rattle.repairer.proofs.repair_block.Goals as goal
@@ -71,15 +69,15 @@ returns-then-repair_number-ne0 c =
     let v = stages xs ms _ _ _ _ _ (c.repair_words-rows.ensures.value, c.repair_words-rows.ensures.block_after) (c.repair_words-columns.ensures.value, c.repair_words-columns.ensures.block_after) c.judge_frames-answer.ensures in
     record {
       value = (frame_refused xs ms old _ c.lengths_fit.ensures c.if-not-lengths_fit.false _ c.marks_fit.ensures c.if-not-marks_fit.false _ _ v
-    (λ e. c.if-repair_number-ne0.true (c.repair_number.ensures ∙ e))).0;
+          (λ e. c.if-repair_number-ne0.true (c.repair_number.ensures ∙ e))).0;
       result_value = (frame_refused xs ms old _ c.lengths_fit.ensures c.if-not-lengths_fit.false _ c.marks_fit.ensures c.if-not-marks_fit.false _ _ v
-    (λ e. c.if-repair_number-ne0.true (c.repair_number.ensures ∙ e))).1.0;
+          (λ e. c.if-repair_number-ne0.true (c.repair_number.ensures ∙ e))).1.0;
       result_value_2 = (frame_refused xs ms old _ c.lengths_fit.ensures c.if-not-lengths_fit.false _ c.marks_fit.ensures c.if-not-marks_fit.false _ _ v
-    (λ e. c.if-repair_number-ne0.true (c.repair_number.ensures ∙ e))).1.1.0;
+          (λ e. c.if-repair_number-ne0.true (c.repair_number.ensures ∙ e))).1.1.0;
       block_after = (frame_refused xs ms old _ c.lengths_fit.ensures c.if-not-lengths_fit.false _ c.marks_fit.ensures c.if-not-marks_fit.false _ _ v
-    (λ e. c.if-repair_number-ne0.true (c.repair_number.ensures ∙ e))).1.1.1.0;
+          (λ e. c.if-repair_number-ne0.true (c.repair_number.ensures ∙ e))).1.1.1.0;
       main_after = (frame_refused xs ms old _ c.lengths_fit.ensures c.if-not-lengths_fit.false _ c.marks_fit.ensures c.if-not-marks_fit.false _ _ v
-    (λ e. c.if-repair_number-ne0.true (c.repair_number.ensures ∙ e))).1.1.1.1;
+          (λ e. c.if-repair_number-ne0.true (c.repair_number.ensures ∙ e))).1.1.1.1;
     }
 
 pub hand_out-requires : goal.hand_out-requires
@@ -104,13 +102,13 @@ returns c =
     let none = sym c.repair_number.ensures ∙ c.if-repair_number-ne0.false in
     record {
       value = (handed_out xs ms old _ c.lengths_fit.ensures c.if-not-lengths_fit.false _ c.marks_fit.ensures c.if-not-marks_fit.false _ _ v _ none
-    c.hand_out.ensures).0;
+          c.hand_out.ensures).0;
       result_value = (handed_out xs ms old _ c.lengths_fit.ensures c.if-not-lengths_fit.false _ c.marks_fit.ensures c.if-not-marks_fit.false _ _ v _ none
-    c.hand_out.ensures).1.0;
+          c.hand_out.ensures).1.0;
       result_value_2 = (handed_out xs ms old _ c.lengths_fit.ensures c.if-not-lengths_fit.false _ c.marks_fit.ensures c.if-not-marks_fit.false _ _ v _ none
-    c.hand_out.ensures).1.1.0;
+          c.hand_out.ensures).1.1.0;
       block_after = (handed_out xs ms old _ c.lengths_fit.ensures c.if-not-lengths_fit.false _ c.marks_fit.ensures c.if-not-marks_fit.false _ _ v _ none
-    c.hand_out.ensures).1.1.1.0;
+          c.hand_out.ensures).1.1.1.0;
       main_after = (handed_out xs ms old _ c.lengths_fit.ensures c.if-not-lengths_fit.false _ c.marks_fit.ensures c.if-not-marks_fit.false _ _ v _ none
-    c.hand_out.ensures).1.1.1.1;
+          c.hand_out.ensures).1.1.1.1;
     }

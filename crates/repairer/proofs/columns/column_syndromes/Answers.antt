@@ -3,7 +3,6 @@ use mathlib.Core.Path.{◌∙◌}
 use Prim.Native.Nat.{ℕ, ◌<◌}
 use native.Mathlib.Omega.{arith}
 use lib.ListN.{get_or}
-use borrow.Author.Rules.{rules}
 use Rattle.layout.proofs.Places.{column_bytes}
 use Rattle.repairer.specs.declared.words.Axis.TheVariants.{Columns}
 use Rattle.repairer.proofs.Along.{left_syndromes}

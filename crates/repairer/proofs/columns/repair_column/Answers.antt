@@ -4,7 +4,6 @@ use mathlib.Core.List.{List, []}
 use Prim.Native.Nat.{ℕ, ◌<◌}
 use native.Mathlib.Omega.{arith}
 use lib.ListN.{length, get_or}
-use borrow.Author.Rules.{rules}
 use Rattle.lists.specs.Fill.{tabulate}
 use Rattle.codes.specs.Word.{syndrome}
 use Rattle.codes.specs.Nearest.{nearest, outcome_of}
@@ -19,9 +18,9 @@ returns-then-all_zero c =
     let small : (i : ℕ) → get_or xs i 0 < 256 = λ i. omega (arith, c.slice_known-1.given i) in
     record {
       value = (column_clean [] xs c.args.j c.requires.2 small _ c.column_syndromes-syndromes.ensures _ c.all_zero.ensures
-    c.if-all_zero.true).0;
+          c.if-all_zero.true).0;
       stored = (column_clean [] xs c.args.j c.requires.2 small _ c.column_syndromes-syndromes.ensures _ c.all_zero.ensures
-    c.if-all_zero.true).1;
+          c.if-all_zero.true).1;
     }
 
 pub correct_column_from-column-requires : goal.correct_column_from-column-requires

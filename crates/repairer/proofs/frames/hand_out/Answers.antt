@@ -1,12 +1,11 @@
 -- `frames::hand_out` meets its contract: each turn writes the main data of one frame. Assumes nothing.
 use mathlib.Core.Path.{◌≡◌, ap, ◌∙◌}
-use Prim.Native.Nat.{◌*◌, ◌≤◌, ◌-◌}
 use native.Mathlib.Omega.{arith}
 use lib.ListN.{length}
 use borrow.Author.Rules.{rules}
-use Rattle.lists.proofs.Fill.{Upto, upto_none}
+use Rattle.lists.proofs.Fill.{upto_none}
 use Rattle.dataframe.specs.Checks.{unscrambled}
-use Rattle.repairer.proofs.FrameLaws.{main_byte, part_length, main_more, main_all}
+use Rattle.repairer.proofs.FrameLaws.{part_length, main_more, main_all}
 use Rattle.repairer.proofs.frames.hand_out.Goals as goal
 
 pub loop-k-init : goal.loop-k-init

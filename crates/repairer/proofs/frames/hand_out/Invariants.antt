@@ -1,12 +1,7 @@
 -- `frames::hand_out` meets its contract: each turn writes the main data of one frame. Assumes nothing.
-use mathlib.Core.Path.{◌≡◌, ap, ◌∙◌}
 use Prim.Native.Nat.{◌*◌, ◌≤◌, ◌-◌}
-use native.Mathlib.Omega.{arith}
-use lib.ListN.{length}
-use borrow.Author.Rules.{rules}
-use Rattle.lists.proofs.Fill.{Upto, upto_none}
-use Rattle.dataframe.specs.Checks.{unscrambled}
-use Rattle.repairer.proofs.FrameLaws.{main_byte, part_length, main_more, main_all}
+use Rattle.lists.proofs.Fill.{Upto}
+use Rattle.repairer.proofs.FrameLaws.{main_byte}
 use Rattle.repairer.proofs.frames.hand_out.Given as goal
 
 abbrev pub invariant-loop-k : goal.invariant-loop-k

@@ -1,10 +1,8 @@
 -- `frames::judge_frames` meets its contract: each turn judges one frame. Assumes nothing.
 use mathlib.Core.Path.{◌≡◌, refl, sym, ap, ◌∙◌}
-use Prim.Native.Nat.{ℕ, ◌≤◌, ◌-◌}
-use borrow.Author.Rules.{rules}
+use Prim.Native.Nat.{ℕ, ◌-◌}
 use Rattle.dataframe.specs.Checks.{number_of}
 use Rattle.layout.specs.Rows.{frame_of}
-use Rattle.repairer.specs.Answer.{judged}
 use Rattle.repairer.specs.declared.Repaired.TheVariants.{Block, FrameRefused}
 use Rattle.repairer.proofs.FrameLaws.{fault_is, frame_passes, frame_fails, judged-none}
 use native.Mathlib.Omega.{arith}

@@ -5,7 +5,6 @@ use mathlib.Core.List.{List}
 use Prim.Native.Nat.{ℕ, ◌+◌, ◌*◌, ◌-◌, ◌<◌}
 use native.Mathlib.Omega.{arith}
 use lib.ListN.{length, get_or, take, drop}
-use borrow.Author.Rules.{rules}
 use Rattle.lists.specs.Fill.{tabulate}
 use Rattle.codes.specs.Word.{syndrome}
 use Rattle.codes.specs.Erasures.{erasure_count, nearest_erased, outcome_erased}
@@ -35,13 +34,12 @@ returns-then-all_zero c =
     }
 
 pub correct_row_from-row-requires : goal.correct_row_from-row-requires
-correct_row_from-row-requires c =
-    (
-      c.requires.0,
-      c.requires.1,
-      ap length (marks_of c.args.erasures.now c.args.q) ∙ row_length c.args.erasures.now c.args.q c.requires.2 c.requires.4,
-      c.row_syndromes-syndromes.ensures ∙ ap (λ (w : List ℕ). tabulate (syndrome w) 10) (sym c.row_at-bytes.ensures),
-    )
+correct_row_from-row-requires c = (
+  c.requires.0,
+  c.requires.1,
+  ap length (marks_of c.args.erasures.now c.args.q) ∙ row_length c.args.erasures.now c.args.q c.requires.2 c.requires.4,
+  c.row_syndromes-syndromes.ensures ∙ ap (λ (w : List ℕ). tabulate (syndrome w) 10) (sym c.row_at-bytes.ensures),
+)
 
 pub put-requires : goal.put-requires
 put-requires c =

@@ -3,7 +3,6 @@ use mathlib.Core.Path.{◌≡◌, ap, ◌∙◌}
 use Prim.Native.Nat.{ℕ, ◌+◌, ◌*◌, ◌-◌}
 use native.Mathlib.Omega.{arith}
 use lib.ListN.{take, drop}
-use borrow.Author.Rules.{rules}
 use Rattle.multiples.specs.Inner.{high, low}
 use Rattle.division.specs.Inner.{remainder_of}
 use Rattle.repairer.specs.declared.words.Axis.TheVariants.{Rows}

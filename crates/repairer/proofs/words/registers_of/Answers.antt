@@ -2,7 +2,6 @@
 use mathlib.Core.Path.{sym, ap, subst, ◌∙◌}
 use Prim.Native.Nat.{◌<◌}
 use lib.ListN.{replicate}
-use borrow.Author.Rules.{rules}
 use Rattle.multiples.specs.Inner.{multiples}
 use Rattle.parity.proofs.Registers.{column_register}
 use Rattle.repairer.specs.Inner.{roots_of, count_of, ColumnDivided, Divided}

@@ -1,7 +1,6 @@
 -- `words::repair_word` meets its contract, along either axis. Assumes nothing.
 use mathlib.Core.Path.{ap, subst, ◌∙◌}
 use Prim.Native.Nat.{◌<◌}
-use borrow.Author.Rules.{rules}
 use Rattle.multiples.specs.Inner.{multiples}
 use Rattle.repairer.specs.Inner.{roots_of, count_of, Divided}
 use Rattle.repairer.specs.declared.words.Axis.{Axis}

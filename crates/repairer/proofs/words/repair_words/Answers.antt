@@ -1,11 +1,9 @@
 -- `words::repair_words` meets its contract: each turn repairs one word. Assumes nothing.
 use mathlib.Core.Path.{◌≡◌, ◌∙◌}
-use Prim.Native.Nat.{◌<◌, ◌≤◌, ◌-◌}
+use Prim.Native.Nat.{◌<◌}
 use native.Mathlib.Omega.{arith}
-use borrow.Author.Rules.{rules}
-use Rattle.repairer.specs.Repair.{tally_of}
 use Rattle.repairer.specs.Inner.{count_of, outcome_of_word}
-use Rattle.repairer.proofs.Along.{WordsUpto, count_most, divided_same, outcome_same, words_none, word_same, words_more, words_all}
+use Rattle.repairer.proofs.Along.{count_most, divided_same, outcome_same, words_none, word_same, words_more, words_all}
 use Rattle.repairer.proofs.Counting.{tally_none, tally_small, tally_more}
 use Rattle.repairer.proofs.words.repair_words.Goals as goal
 
@@ -26,9 +24,9 @@ count_word-tally-requires c =
     let a = c.args.axis in
     record {
       corrected_lt_row_count = (tally_small (outcome_of_word a c.args.erasures.now c.args.block.now) c.loop-k.k _ c.loop-k.invariant.1
-    (omega (arith, count_most a, c.word_count-count.ensures))).0;
+          (omega (arith, count_most a, c.word_count-count.ensures))).0;
       uncorrectable_lt_row_count = (tally_small (outcome_of_word a c.args.erasures.now c.args.block.now) c.loop-k.k _ c.loop-k.invariant.1
-    (omega (arith, count_most a, c.word_count-count.ensures))).1;
+          (omega (arith, count_most a, c.word_count-count.ensures))).1;
     }
 
 pub loop-k-preserved : goal.loop-k-preserved
