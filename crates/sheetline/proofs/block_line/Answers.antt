@@ -2,11 +2,7 @@
 use native.Mathlib.Omega.{arith}
 use Rattle.sheetline.proofs.Laying.{then, named}
 use Rattle.sheetline.specs.Line.{sheet_line}
-use borrow.Author.Rules.{rules}
 use Rattle.sheetline.proofs.block_line.Goals as goal
-
--- LEFT slice-aggregate-put-text-2 : tie.Need-slice-aggregate-put-text-2
--- slice-aggregate-put-text-2 c = search rules
 
 pub returns : goal.returns
 unfolding sheet_line

@@ -3,18 +3,11 @@ use mathlib.Core.Path.{sym, ap}
 use native.Mathlib.Omega.{arith}
 use Rattle.sheetline.specs.Line.{sheet_line, last_digits}
 use Rattle.sheetline.proofs.Laying.{named, whole}
-use borrow.Author.Rules.{rules}
 use Rattle.sheetline.proofs.sheet_line.Goals as goal
-
--- LEFT slice-aggregate-put-text : tie.Need-slice-aggregate-put-text
--- slice-aggregate-put-text c = search rules
-
--- LEFT slice-aggregate-put-text-2 : tie.Need-slice-aggregate-put-text-2
--- slice-aggregate-put-text-2 c = search rules
 
 pub returns-in-Block : goal.returns-in-Block
 returns-in-Block c =
-    let e = c.answer-1.given.1 in
+    let e = c.in-Block.is in
     let all = whole (named c.block_line.ensures.text (sym (ap sheet_line e))) (omega arith) in
     record {
       value = all.0;
@@ -24,7 +17,7 @@ returns-in-Block c =
 
 pub returns-in-FrameRefused : goal.returns-in-FrameRefused
 returns-in-FrameRefused c =
-    let e = c.answer-in-FrameRefused-1.given.1 in
+    let e = c.in-FrameRefused.is in
     let all = whole (named c.frame_line.ensures.text (sym (ap sheet_line e))) (omega arith) in
     record {
       value = all.0;
@@ -35,7 +28,7 @@ returns-in-FrameRefused c =
 pub returns-in-ErasureRefused : goal.returns-in-ErasureRefused
 unfolding sheet_line last_digits
 returns-in-ErasureRefused c =
-    let e = c.enum_told-1.given.1 in
+    let e = c.in-ErasureRefused.is in
     let all = whole (named c.put_text.ensures (sym (ap sheet_line e))) (omega arith) in
     record {
       value = all.0;
@@ -46,7 +39,7 @@ returns-in-ErasureRefused c =
 pub returns-in-LengthRefused : goal.returns-in-LengthRefused
 unfolding sheet_line last_digits
 returns-in-LengthRefused c =
-    let e = c.enum_told-in-LengthRefused-1.given.1 in
+    let e = c.in-LengthRefused.is in
     let all = whole (named c.put_text-in-LengthRefused.ensures (sym (ap sheet_line e))) (omega arith) in
     record {
       value = all.0;

@@ -1,6 +1,5 @@
 -- `numbers::digit` meets its contract. Assumes nothing.
 use borrow.Author.Tests.{lt-ltb, le-ltb}
-use borrow.Author.Rules.{rules}
 use Rattle.sheetline.proofs.numbers.digit.Goals as goal
 
 pub returns-then-d-lt10 : goal.returns-then-d-lt10

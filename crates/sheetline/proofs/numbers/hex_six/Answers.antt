@@ -1,5 +1,4 @@
 -- `numbers::hex_six` meets its contract. Assumes nothing.
-use borrow.Author.Rules.{rules}
 use Rattle.sheetline.proofs.numbers.hex_six.Goals as goal
 
 pub returns : goal.returns

@@ -1,6 +1,5 @@
 -- `numbers::put_text` meets its contract. Assumes nothing.
 use native.Mathlib.Omega.{arith}
-use borrow.Author.Rules.{rules}
 use Rattle.sheetline.proofs.numbers.put_text.Goals as goal
 
 pub returns : goal.returns
