@@ -379,6 +379,10 @@ def turn(crate, func_dir, data, mod):
     ans, inv = list(map(respelled, ans)), list(map(respelled, inv))
     top = [l for l in head if l.strip()]
     top = [re.sub(r"`bytes::", "`octets::", l) for l in top]
+    # a short name that an invariant uses, in both files
+    named = [b for b in ans if re.match(r"(--.*\n)*abbrev ", b)]
+    told = "\n".join(inv)
+    inv = [b for b in named if re.search(r"(?<![^\s(])" + re.escape(re.search(r"^abbrev (\S+)", b, re.M)[1]) + r"(?![^\s)])", told)] + inv
     out = []
     if inv:
         out.append(("Invariants.antt", "\n".join(top + uses + [f"use {mod}.Given as goal"]) + "\n\n" + "\n\n".join(inv) + "\n"))

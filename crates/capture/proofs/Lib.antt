@@ -1,4 +1,3 @@
 pub mod Turns
 pub mod Laying
 pub mod Answers
-pub mod Held

@@ -1,7 +1,7 @@
 -- A pass from frame to frame: what is left at a frame and after it, of the frames (frames_turn), of their bytes (bytes-found, bytes_turn) and of the stretches
 -- (between-found, between_turn), and past the last frame (frames_end, bytes_end, between_end). A gap by its bits (gap-some, gap-none).
 -- Assumes nothing.
-use mathlib.Core.Path.{◌≡◌, refl, sym, ap, ◌∙◌}
+use mathlib.Core.Path.{◌≡◌, refl, ap, ◌∙◌}
 use mathlib.Core.Bool.{Bool, cond}
 use mathlib.Core.List.{List, [], ◌∷◌, ◌++◌}
 use Prim.Native.Nat.{ℕ, ◌+◌, ◌-◌, ◌<◌, ◌≤◌}

@@ -1,12 +1,11 @@
 -- A SYNC Code at a bit, by what was looked at: too near the end (sync_short), in the capture (sync-within), another second half word (sync_other_end); and a frame by
 -- its two codes (frame_by_codes).
 -- Assumes nothing.
-use mathlib.Core.Path.{◌≡◌, refl, sym, ap, ap₂, ◌∙◌}
-use mathlib.Core.Bool.{Bool, true, false, ◌&&◌, ◌||◌}
+use mathlib.Core.Path.{◌≡◌, refl, ap, ap₂}
+use mathlib.Core.Bool.{Bool, false, ◌&&◌, ◌||◌}
 use mathlib.Core.List.{List}
 use Prim.Native.Nat.{ℕ, zero, suc, ◌+◌, ◌<◌, ◌≤◌}
 use borrow.Author.Tests.{ne_eqb, le-leb, lt-leb}
-use lib.Dec.{leb}
 use Rattle.lists.proofs.Test.{and_false}
 use Rattle.annexg.specs.Sync.{is_sync, sync_end}
 use Rattle.octets.specs.Halves.{bits_at}

@@ -2,7 +2,7 @@
 -- Where a SYNC Code and a frame end (sync_end_lem, frame_end), and that the frames have room (frames-room).
 -- Assumes nothing.
 use mathlib.Core.Path.{◌≡◌, refl, sym, ap, ◌∙◌}
-use mathlib.Core.Bool.{Bool, true, false, false≢true, ◌&&◌}
+use mathlib.Core.Bool.{Bool, true, false, ◌&&◌}
 use mathlib.Core.List.{List, [], ◌∷◌}
 use mathlib.Core.Logic.{dite}
 use Prim.Native.Nat.{ℕ, zero, suc, ◌+◌, ◌*◌, ◌<◌, ◌≤◌}
@@ -10,7 +10,7 @@ use native.Mathlib.Decide.{dec_lt}
 use native.Mathlib.Omega.{arith}
 use lib.Dec.{T, leb, leb→le}
 use lib.ListN.{length}
-use Rattle.lists.proofs.Test.{and_left, and_right, truth, truth_of}
+use Rattle.lists.proofs.Test.{and_left, and_right, truth_of}
 use Rattle.annexg.specs.Sync.{is_sync}
 use Rattle.octets.specs.Halves.{bits_at}
 use Rattle.channel.specs.Block.{some_from}

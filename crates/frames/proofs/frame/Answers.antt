@@ -3,7 +3,6 @@
 use mathlib.Core.Path.{sym, ap}
 use mathlib.Core.Bool.{true, false, not}
 use native.Mathlib.Omega.{arith}
-use borrow.Author.Rules.{rules}
 use Rattle.frames.proofs.Filling.{lower-is, buffer_keeps, buffer_shows, running_shown}
 use Rattle.frames.proofs.frame.Goals as goal
 

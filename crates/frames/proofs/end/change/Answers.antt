@@ -1,8 +1,6 @@
 -- `frames::end::change` meets its contract: the DSV is not beyond; or the other code makes the absolute DSV smaller, or not.
 -- Assumes nothing.
 use mathlib.Core.Path.{sym, ◌∙◌}
-use borrow.Author.Tests.{not-true, not-false}
-use borrow.Author.Rules.{rules}
 use Rattle.frames.proofs.Ended.{closes_near, closes-same, closes_new}
 use Rattle.frames.proofs.end.change.Goals as goal
 

@@ -1,6 +1,5 @@
 -- `frames::end::is_beyond` meets its contract.
 -- Assumes nothing.
-use borrow.Author.Rules.{rules}
 use Rattle.frames.proofs.Ended.{beyond-high, beyond-low}
 use Rattle.frames.proofs.end.is_beyond.Goals as goal
 

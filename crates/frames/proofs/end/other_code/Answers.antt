@@ -2,7 +2,6 @@
 -- Assumes nothing.
 use mathlib.Core.Path.{sym, ◌∙◌}
 use borrow.Author.Tests.{eq-eqb, ne_eqb}
-use borrow.Author.Rules.{rules}
 use Rattle.frames.proofs.end.other_code.Goals as goal
 
 pub returns-then-half_at-primary : goal.returns-then-half_at-primary

@@ -1,19 +1,18 @@
 -- `frames::end::recount` meets its contract: each turn counts one half word more.
 -- Assumes nothing.
 use mathlib.Core.Path.{refl}
-use Prim.Native.Nat.{◌+◌, ◌*◌, ◌-◌, ◌≤◌}
+use Prim.Native.Nat.{◌+◌, ◌*◌, ◌-◌}
 use native.Mathlib.Omega.{arith}
 use Rattle.layout.specs.Lengths.{frame_bits, frame_halves}
-use Rattle.levels.specs.Inner.{Room}
 use Rattle.levels.proofs.Steps.{room-le}
-use Rattle.frames.proofs.Ended.{Recounted, recount_one, recount_more, recount_all, room_next}
+use Rattle.frames.proofs.Ended.{recount_one, recount_more, recount_all, room_next}
 use Rattle.frames.proofs.end.recount.Goals as goal
 
 pub half-running-requires : goal.half-running-requires
 half-running-requires c = record {
-      levels_value = c.requires.levels_value;
-      room = room-le _ 16 frame_bits (omega arith) c.requires.room;
-    }
+  levels_value = c.requires.levels_value;
+  room = room-le _ 16 frame_bits (omega arith) c.requires.room;
+}
 
 pub loop-i-init : goal.loop-i-init
 loop-i-init c = (omega arith, (omega arith, (room_next _ _ _ frame_bits (16 * 92) refl c.requires.room c.half-running.ensures, recount_one _ _)))
@@ -23,9 +22,9 @@ half_at-requires c = omega (arith, c.requires.buffer_len)
 
 pub half-running-requires-in-loop-i : goal.half-running-requires-in-loop-i
 half-running-requires-in-loop-i c = record {
-      levels_value = c.requires.levels_value;
-      room = room-le _ 16 (16 * (frame_halves - c.loop-i.i)) (omega arith) c.loop-i.invariant.1.1.0;
-    }
+  levels_value = c.requires.levels_value;
+  room = room-le _ 16 (16 * (frame_halves - c.loop-i.i)) (omega arith) c.loop-i.invariant.1.1.0;
+}
 
 pub loop-i-preserved : goal.loop-i-preserved
 loop-i-preserved c =

@@ -1,8 +1,6 @@
 -- `frames::step::can_swap` meets its contract: a case for each test.
 -- Assumes nothing.
 use mathlib.Core.Path.{sym, ◌∙◌}
-use borrow.Author.Tests.{not-true, not-false}
-use borrow.Author.Rules.{rules}
 use Rattle.frames.proofs.Choices.{swap_small, swap_state, swap_first, swap_second}
 use Rattle.frames.proofs.step.can_swap.Goals as goal
 

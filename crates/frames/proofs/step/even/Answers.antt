@@ -1,7 +1,5 @@
 -- `frames::step::even` meets its contract.
 -- Assumes nothing.
-use borrow.Author.Tests.{not-true, not-false}
-use borrow.Author.Rules.{rules}
 use Rattle.frames.proofs.Buffers.{even_none, even_first, even_second}
 use Rattle.frames.proofs.step.even.Goals as goal
 

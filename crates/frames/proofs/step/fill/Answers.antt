@@ -2,7 +2,6 @@
 -- Assumes nothing.
 use mathlib.Core.Bool.{true, false}
 use native.Mathlib.Omega.{arith}
-use borrow.Author.Rules.{rules}
 use Rattle.layout.specs.Lengths.{frame_bits}
 use Rattle.levels.proofs.Steps.{room-le}
 use Rattle.frames.proofs.Words.{synced}
@@ -11,19 +10,19 @@ use Rattle.frames.proofs.step.fill.Goals as goal
 
 pub lay_sync-one-requires : goal.lay_sync-one-requires
 lay_sync-one-requires c = record {
-      levels_value = c.requires.levels_value;
-      syncs_value = c.requires.syncs_value;
-      room = room-le _ 32 frame_bits (omega arith) c.requires.begins.room;
-      in_bounds = omega (arith, c.requires.begins.one);
-    }
+  levels_value = c.requires.levels_value;
+  syncs_value = c.requires.syncs_value;
+  room = room-le _ 32 frame_bits (omega arith) c.requires.begins.room;
+  in_bounds = omega (arith, c.requires.begins.one);
+}
 
 pub lay_sync-two-requires : goal.lay_sync-two-requires
 lay_sync-two-requires c = record {
-      levels_value = c.requires.levels_value;
-      syncs_value = c.requires.syncs_value;
-      room = room-le _ 32 frame_bits (omega arith) c.requires.begins.room;
-      in_bounds = omega (arith, c.requires.begins.two);
-    }
+  levels_value = c.requires.levels_value;
+  syncs_value = c.requires.syncs_value;
+  room = room-le _ 32 frame_bits (omega arith) c.requires.begins.room;
+  in_bounds = omega (arith, c.requires.begins.two);
+}
 
 pub step_bytes-requires : goal.step_bytes-requires
 step_bytes-requires c =
@@ -37,11 +36,11 @@ step_bytes-requires c =
       words_value = c.requires.words_value;
       substitutes_value = c.requires.substitutes_value;
       opened = record {
-            start = r;
-            code = n;
-            begins = begins_in c.requires.begins (omega (arith, c.requires.begins.one)) (omega (arith, c.requires.begins.two));
-            shows = shows-opened r n one two;
-          };
+        start = r;
+        code = n;
+        begins = begins_in c.requires.begins (omega (arith, c.requires.begins.one)) (omega (arith, c.requires.begins.two));
+        shows = shows-opened r n one two;
+      };
     }
 
 pub returns : goal.returns

@@ -1,6 +1,5 @@
 -- `frames::step::lower` meets its contract.
 -- Assumes nothing.
-use borrow.Author.Rules.{rules}
 use Rattle.frames.proofs.step.lower.Goals as goal
 
 pub returns : goal.returns

@@ -2,7 +2,6 @@
 -- Assumes nothing.
 use mathlib.Core.Path.{ap, ap₂, ◌∙◌}
 use mathlib.Core.Bool.{Bool, cond}
-use borrow.Author.Rules.{rules}
 use Rattle.laying.specs.declared.Side.{Side}
 use Rattle.streams.specs.Streams.{swap_possible}
 use Rattle.frames.specs.Inner.{plan_of, plan_for}

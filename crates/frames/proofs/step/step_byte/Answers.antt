@@ -1,25 +1,24 @@
 -- `frames::step::step_byte` meets its contract.
 -- Assumes nothing.
-use borrow.Author.Rules.{rules}
 use Rattle.frames.proofs.Choices.{step_shown}
 use Rattle.frames.proofs.Words.{worded}
 use Rattle.frames.proofs.step.step_byte.Goals as goal
 
 pub lay_word-one-requires : goal.lay_word-one-requires
 lay_word-one-requires c = record {
-      levels_value = c.requires.levels_value;
-      words_value = c.requires.words_value;
-      substitutes_value = c.requires.substitutes_value;
-      next = c.even-pair.ensures.ready.one;
-    }
+  levels_value = c.requires.levels_value;
+  words_value = c.requires.words_value;
+  substitutes_value = c.requires.substitutes_value;
+  next = c.even-pair.ensures.ready.one;
+}
 
 pub lay_word-two-requires : goal.lay_word-two-requires
 lay_word-two-requires c = record {
-      levels_value = c.requires.levels_value;
-      words_value = c.requires.words_value;
-      substitutes_value = c.requires.substitutes_value;
-      next = c.even-pair.ensures.ready.two;
-    }
+  levels_value = c.requires.levels_value;
+  words_value = c.requires.words_value;
+  substitutes_value = c.requires.substitutes_value;
+  next = c.even-pair.ensures.ready.two;
+}
 
 pub returns : goal.returns
 returns c t s =

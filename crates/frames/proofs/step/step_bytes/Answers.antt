@@ -1,12 +1,11 @@
 -- `frames::step::step_bytes` meets its contract: each turn makes the step over one byte more.
 -- Assumes nothing.
 use mathlib.Core.Path.{◌≡◌}
-use Prim.Native.Nat.{◌-◌, ◌<◌, ◌≤◌}
+use Prim.Native.Nat.{◌<◌}
 use native.Mathlib.Omega.{arith}
 use lib.ListN.{length}
 use Rattle.lists.proofs.Bytes.{bytes_of}
-use Rattle.layout.specs.Lengths.{frame_bytes, frame_stream}
-use Rattle.frames.specs.Inner.{Stepped}
+use Rattle.layout.specs.Lengths.{frame_bytes}
 use Rattle.frames.proofs.Filling.{stepped_none, stepped_more, stepped_ready}
 use Rattle.frames.proofs.step.step_bytes.Goals as goal
 
