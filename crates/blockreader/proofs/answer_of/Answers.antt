@@ -2,7 +2,6 @@
 use mathlib.Core.Path.{sym, ap}
 use Rattle.repairer.specs.declared.Repaired.{Repaired}
 use Rattle.blockreader.specs.BlockReader.{with_sums}
-use borrow.Author.Rules.{rules}
 use Rattle.blockreader.proofs.answer_of.Goals as goal
 
 pub returns-in-Block : goal.returns-in-Block

@@ -1,6 +1,5 @@
 -- `read_block` meets its contract. Assumes nothing.
 use Rattle.blockreader.proofs.Answers.{stream-length, block_length, erasures-length, main_length, taken, clauses}
-use borrow.Author.Rules.{rules}
 use Rattle.blockreader.proofs.read_block.Goals as goal
 
 pub returns-then-stream-ne-STREAM_SIZE : goal.returns-then-stream-ne-STREAM_SIZE

@@ -1,18 +1,16 @@
 -- `read_sectors` meets its contract. Assumes nothing.
 use mathlib.Core.Path.{◌≡◌, sym, ap, ◌∙◌}
 use mathlib.Core.List.{List}
-use Prim.Native.Nat.{ℕ, ◌+◌, ◌-◌, ◌*◌, ◌<◌, ◌≤◌}
+use Prim.Native.Nat.{ℕ, ◌+◌, ◌-◌, ◌*◌, ◌<◌}
 use lib.ListN.{length, get_or, take, drop, length-drop}
 use lib.Seq.{length-take-le}
-use Rattle.lists.proofs.Fill.{Upto, upto_none}
+use Rattle.lists.proofs.Fill.{upto_none}
 use Rattle.channel.specs.Block.{read_at}
 use Rattle.layout.specs.Lengths.{sector_size, sector_stream, sector_read, block_size}
 use Rattle.layout.specs.Sectors.{sector_part}
 use Rattle.reader.specs.Sector.{unknown_tally, sync_tally}
-use Rattle.blockreader.specs.BlockReader.{sector_sum}
 use Rattle.blockreader.proofs.SectorLoop.{mark_at, upto_put, sector_bytes, sector_length, sector_erasures, erasures-length, sums_next, unknown_le, sync-le, sum_next, sum_end, sectors_all, erasures_all}
 use native.Mathlib.Omega.{arith}
-use borrow.Author.Rules.{rules}
 use Rattle.blockreader.proofs.read_sectors.Goals as goal
 
 pub loop-k-init : goal.loop-k-init
@@ -20,9 +18,9 @@ loop-k-init c = (omega arith, upto_none _ _, upto_none _ _, omega arith, omega a
 
 pub with-s-requires : goal.with-s-requires
 with-s-requires c = record {
-      unknown_bound = omega arith;
-      sync_bound = omega arith;
-    }
+  unknown_bound = omega arith;
+  sync_bound = omega arith;
+}
 
 pub loop-k-preserved : goal.loop-k-preserved
 loop-k-preserved c =

@@ -1,6 +1,4 @@
 -- `both_marks_fit` meets its contract. Assumes nothing.
-use borrow.Author.Rules.{rules}
-use borrow.Author.Tests.{not-true, not-false}
 use Rattle.pooling.proofs.Answers.{first_fails, second_tells}
 use Rattle.pooling.proofs.both_marks_fit.Goals as goal
 

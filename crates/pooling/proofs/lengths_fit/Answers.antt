@@ -1,6 +1,4 @@
 -- `lengths_fit` meets its contract. Assumes nothing.
-use borrow.Author.Rules.{rules}
-use borrow.Author.Tests.{not-true, not-false}
 use Rattle.pooling.proofs.Answers.{first_fails, second_tells}
 use Rattle.pooling.proofs.lengths_fit.Goals as goal
 

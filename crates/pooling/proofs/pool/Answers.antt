@@ -1,6 +1,4 @@
 -- `pool` meets its contract, case by case. Assumes nothing.
-use borrow.Author.Rules.{rules}
-use borrow.Author.Tests.{not-true, not-false}
 use Rattle.pooling.specs.Pool.{with_marks}
 use Rattle.pooling.specs.Answer.{pool_sized, pool_marks_fit}
 use Rattle.pooling.proofs.Answers.{length_refused, mark_refused, places_fit, pooled_both}
@@ -47,11 +45,11 @@ returns c =
     let b = with_marks c.args.second.now c.args.marks.now in
     record {
       value = (pooled_both a b _ c.lengths_fit.ensures c.if-not-lengths_fit.false _ c.both_marks_fit.ensures c.if-not-both_marks_fit.false _ _
-    c.pool_places.ensures.bytes_after c.pool_places.ensures.erasures_after).0;
+          c.pool_places.ensures.bytes_after c.pool_places.ensures.erasures_after).0;
       result_value = (pooled_both a b _ c.lengths_fit.ensures c.if-not-lengths_fit.false _ c.both_marks_fit.ensures c.if-not-both_marks_fit.false _ _
-    c.pool_places.ensures.bytes_after c.pool_places.ensures.erasures_after).1.0;
+          c.pool_places.ensures.bytes_after c.pool_places.ensures.erasures_after).1.0;
       bytes_after = (pooled_both a b _ c.lengths_fit.ensures c.if-not-lengths_fit.false _ c.both_marks_fit.ensures c.if-not-both_marks_fit.false _ _
-    c.pool_places.ensures.bytes_after c.pool_places.ensures.erasures_after).1.1.0;
+          c.pool_places.ensures.bytes_after c.pool_places.ensures.erasures_after).1.1.0;
       erasures_after = (pooled_both a b _ c.lengths_fit.ensures c.if-not-lengths_fit.false _ c.both_marks_fit.ensures c.if-not-both_marks_fit.false _ _
-    c.pool_places.ensures.bytes_after c.pool_places.ensures.erasures_after).1.1.1;
+          c.pool_places.ensures.bytes_after c.pool_places.ensures.erasures_after).1.1.1;
     }

@@ -1,13 +1,12 @@
 -- `pool_places` meets its contract: the places before i are pooled, and those from i on as they were. Assumes nothing.
 use mathlib.Core.Path.{◌≡◌, refl, sym, subst, ◌∙◌}
 use mathlib.Core.List.{List}
-use Prim.Native.Nat.{ℕ, ◌-◌, ◌≤◌}
+use Prim.Native.Nat.{ℕ, ◌≤◌}
 use native.Mathlib.Omega.{arith}
 use borrow.Author.Rules.{rules}
 use lib.ListN.{length, length-set}
 use Rattle.lists.specs.Count.{bit}
 use Rattle.lists.proofs.Fill.{Upto, upto_none, upto_more, upto_all}
-use Rattle.layout.specs.Lengths.{block_size}
 use Rattle.repairer.proofs.Marks.{mark_at_lem}
 use Rattle.pooling.specs.Pool.{with_marks, byte_at, marked_at, pooled_byte, pooled_mark, pooled}
 use Rattle.pooling.proofs.pool_places.Goals as goal

@@ -1,6 +1,5 @@
 -- `pooled_place` meets its contract, case by case. Assumes nothing.
 use native.Mathlib.Omega.{arith}
-use borrow.Author.Rules.{rules}
 use Rattle.pooling.proofs.Places.{first_marked, second_marked, both_unmarked}
 use Rattle.pooling.proofs.pooled_place.Goals as goal
 

@@ -1,7 +1,6 @@
 -- `Sums::with` meets its contract. Assumes nothing.
 use mathlib.Core.Path.{sym, ap}
 use Rattle.blockreader.specs.Inner.{add_sector}
-use borrow.Author.Rules.{rules}
 use Rattle.blockreader.proofs.Sums.with.Goals as goal
 
 pub returns-in-Sector : goal.returns-in-Sector
