@@ -28,8 +28,9 @@ pub fn read_full<R: Read>(reader: &mut R, buf: &mut [u8]) -> io::Result<usize>
 
 #[cfg(test)]
 mod tests {
-    use super::*;
-    use std::test::Fail;
+    use super::read_full;
+    use std::io;
+    use std::io::Read;
 
     // A reader that gives two bytes at a time, and one that fails behind them.
     #[derive(Drop)]
@@ -57,7 +58,7 @@ mod tests {
     }
 
     #[test]
-    fn fills_to_the_end(rt: HostRuntime) -> Result<(), Fail> {
+    fn fills_to_the_end(rt: HostRuntime) -> Result<(), std::test::Fail> {
         let mut short: &[u8] = b"abc";
         let mut buf = [0u8; 5];
         assert_eq!(rt; read_full(&mut short, &mut buf)?, 3);
