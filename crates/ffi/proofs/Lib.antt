@@ -1,4 +1,0 @@
-pub mod Answered
-pub mod Digits
-pub mod Lengths
-pub mod Reports
