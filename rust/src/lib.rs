@@ -1,6 +1,6 @@
 //! The 80 mm DVD channel (ECMA-268), from main data to code bits and back: a safe layer over the proved functions of `crates/ffi`.
 //!
-//! `rt staticlib ffi`, at the top of the repository, has to be run first: it proves the functions and builds the archive that this crate links.
+//! `bin/library`, at the top of the repository, has to be run first: it proves the functions and builds the archive that this crate links.
 //! Each function below it is proved to answer and to write what its contract says, never to do anything undefined, and to return.
 //!
 //! ```

@@ -99,13 +99,13 @@ fn sweep(stated: &[usize], mut call: impl FnMut(&mut [Buffer<u8>]) -> Result<(),
 }
 
 /// The same of a report.
-fn sweep_report<T: Copy + PartialEq + Debug + From<u8>>(
+fn sweep_report<T: Copy + PartialEq + Debug + From<u32>>(
     stated: usize,
     mut call: impl FnMut(&mut [T]) -> Result<(), Refusal>,
 ) {
     let pattern: Vec<T> = (100..200).map(T::from).collect();
     for n in (0..40).filter(|n| *n != stated) {
-        let mut report = Buffer::new(&pattern, n, T::from(0xA5));
+        let mut report = Buffer::new(&pattern, n, T::from(0xA5A5_A5A5));
         assert_eq!(
             call(report.lend()),
             Err(Refusal::Length),
