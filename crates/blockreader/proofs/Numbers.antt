@@ -1,5 +1,5 @@
--- The number of the whole-block reader's answer, and the frame that it carries: the repairer's, where the lengths fit (block_read_number_lem, block_read_frame_lem). The
--- sector reader's marks are 0 or 1, so that it is never 11 (marks_fit_lem, never_eleven).
+-- The number of the whole-block reader's answer, and the frame that it carries: the repairer's, where the lengths fit (block_read_number_lem, block_read_frame_lem); so
+-- are a block's first number and tallies (sums_first). The sector reader's marks are 0 or 1, so that it is never 11 (marks_fit_lem, never_eleven).
 -- Assumes nothing.
 use mathlib.Core.Path.{◌≡◌, refl, ap, ◌∙◌}
 use mathlib.Core.Bool.{Bool, true, false, cond}
@@ -18,12 +18,17 @@ use Rattle.reader.specs.Sector.{unknown_tally, sync_tally}
 use Rattle.repairer.specs.Repair.{repaired}
 use Rattle.repairer.specs.Answer.{frame_fault, lengths_fit, marks_fit, repair_answer, no_frame, refused_frame, repair_refusal, repair_number, repair_frame}
 use Rattle.repairer.specs.declared.Repaired.{Repaired}
+use Rattle.repairer.specs.declared.Tallies.{Tallies}
 use Rattle.repairer.specs.declared.Repaired.TheVariants.{Block, FrameRefused, ErasureRefused, LengthRefused as RepairedLength}
 use Rattle.repairer.proofs.Marks.{marks_fit_all}
 use Rattle.repairer.proofs.Numbers.{repair_number_lem, repair_frame_lem, fault_small}
 use Rattle.blockreader.specs.BlockReader.{sector_sum, with_sums, block_fits, block_read_answer, block_read_refusal, block_read_refused_frame, block_read_number, block_read_frame}
 use Rattle.blockreader.specs.declared.BlockRead.{BlockRead}
-use Rattle.blockreader.specs.declared.BlockRead.TheVariants.{LengthRefused}
+use Rattle.blockreader.specs.declared.BlockRead.TheVariants.{Block as BlockOf, LengthRefused}
+
+-- a repaired block keeps its first number and its tallies
+pub sums_first : (first u s : ℕ) (tallies : Tallies) → with_sums (Block first tallies) u s ≡ BlockOf first tallies u s
+sums_first first u s tallies = refl
 
 -- the sums change neither
 sums-number : (r : Repaired) (u s : ℕ) → block_read_number (with_sums r u s) ≡ repair_number r
