@@ -1,89 +1,87 @@
-// GF(256): product, quotient, inverse, logarithm and power (ECMA-268, 16.2 and clause 18; document 01, 'The block'). The table of logarithms is lent, so that no call makes it anew.
+// GF(256): product, quotient, inverse, logarithm and power (ECMA-268, 16.2 and clause 18; document 01, 'The block'), over a table of logarithms that is made once and lent.
 #![tactic(auto)]
 
 ghost use Rattle.std.specs.Prelude.{◌≡◌, ◌<◌};
 ghost use Rattle.field.specs.Field.{mul, pow, inverse};
 ghost use Rattle.field.specs.Inner.{LogTable};
 
-// The table of logarithms and powers, to be lent.
-pub fn log_table() -> [u8; 768]
-    ensures { LogTable result }
-{
-    TABLE
+// The logarithms and powers of α.
+#[derive(Clone, Copy)]
+pub struct Logs {
+    table: [u8; 768],
+    ghost sound: { LogTable table },
 }
 
-// The product of two elements.
-pub fn product(logs: &[u8; 768], a: u8, b: u8) -> u8
-    requires { LogTable logs.now }
-    ensures { result ≡ mul a b }
-{
-    if a == 0 {
-        return 0;
+impl Logs {
+    pub fn new() -> Logs {
+        Logs { table: TABLE }
     }
-    if b == 0 {
-        return 0;
-    }
-    let i = octets::index(logs[octets::index(a)]);
-    let j = octets::index(logs[octets::index(b)]);
-    logs[256 + (i + j)]
-}
 
-// α^k.
-pub fn alpha_power(logs: &[u8; 768], k: u8) -> u8
-    requires { LogTable logs.now }
-    ensures { result ≡ pow 2 k }
-{
-    logs[256 + octets::index(k)]
-}
-
-// The inverse of an element, and 0 for 0.
-pub fn inverse_of(logs: &[u8; 768], a: u8) -> u8
-    requires { LogTable logs.now }
-    ensures { result ≡ inverse a }
-{
-    if a == 0 {
-        return 0;
-    }
-    let i = octets::index(logs[octets::index(a)]);
-    logs[256 + (255 - i)]
-}
-
-// a over b: a times the inverse of b.
-pub fn quotient(logs: &[u8; 768], a: u8, b: u8) -> u8
-    requires { LogTable logs.now }
-    ensures { result ≡ mul a (inverse b) }
-{
-    product(logs, a, inverse_of(logs, b))
-}
-
-// The logarithm of an element a other than 0: the one exponent k below 255 for which α^k is a.
-pub fn logarithm(logs: &[u8; 768], a: u8) -> u8
-    requires { LogTable logs.now × (0 < a) }
-    ensures result_value { pow 2 result ≡ a }
-    ensures upper_bound { result < 255 }
-{
-    logs[octets::index(a)]
-}
-
-// a to the power n, along the bits of n from the lowest on: where the bit is one the base is multiplied in, and for the next bit it is squared. At the head of
-// each turn
-//     accumulator × base^left = a^n,
-// left being what is left of n. With no bit left base^0 is 1, and the accumulator is the power.
-pub fn power(logs: &[u8; 768], a: u8, n: u64) -> u8
-    requires { LogTable logs.now }
-    ensures { result ≡ pow a n }
-{
-    let mut accumulator: u8 = 1;
-    let mut base: u8 = a;
-    let mut left: u64 = n;
-    while 0 < left {
-        if left % 2 == 1 {
-            accumulator = product(logs, accumulator, base);
+    // The product of two elements.
+    pub fn product(&self, a: u8, b: u8) -> u8
+        ensures { result ≡ mul a b }
+    {
+        if a == 0 || b == 0 {
+            return 0;
         }
-        base = product(logs, base, base);
-        left /= 2;
+        let i = usize::from(self.table[usize::from(a)]);
+        let j = usize::from(self.table[usize::from(b)]);
+        self.table[256 + (i + j)]
     }
-    accumulator
+
+    // α^k.
+    pub fn alpha_power(&self, k: u8) -> u8
+        ensures { result ≡ pow 2 k }
+    {
+        self.table[256 + usize::from(k)]
+    }
+
+    // The inverse of an element, and 0 for 0.
+    pub fn inverse(&self, a: u8) -> u8
+        ensures { result ≡ inverse a }
+    {
+        if a == 0 {
+            return 0;
+        }
+        let i = usize::from(self.table[usize::from(a)]);
+        self.table[256 + (255 - i)]
+    }
+
+    // a over b: a times the inverse of b.
+    pub fn quotient(&self, a: u8, b: u8) -> u8
+        ensures { result ≡ mul a (inverse b) }
+    {
+        self.product(a, self.inverse(b))
+    }
+
+    // The logarithm of an element a other than 0: the one exponent k below 255 for which α^k is a.
+    pub fn logarithm(&self, a: u8) -> u8
+        requires { 0 < a }
+        ensures result_value { pow 2 result ≡ a }
+        ensures upper_bound { result < 255 }
+    {
+        self.table[usize::from(a)]
+    }
+
+    // a to the power n, along the bits of n from the lowest on: where the bit is one the base is multiplied in, and for the next bit it is squared. At the head of
+    // each turn
+    //     accumulator × base^left = a^n,
+    // left being what is left of n. With no bit left base^0 is 1, and the accumulator is the power.
+    pub fn power(&self, a: u8, n: u64) -> u8
+        ensures { result ≡ pow a n }
+    {
+        let mut accumulator: u8 = 1;
+        let mut base: u8 = a;
+        let mut left: u64 = n;
+        while 0 < left {
+            if left % 2 == 1 {
+                accumulator = self.product(accumulator, base);
+            }
+            base = self.product(base, base);
+            left /= 2;
+        }
+        accumulator
+    }
 }
 
 // Entry a is the logarithm of a to the base α (0 has none: entry 0 is 0); entry 256 + i is α^i, i up to 511. In hexadecimal: entry 0, and α^8.

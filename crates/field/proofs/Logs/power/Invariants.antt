@@ -1,8 +1,8 @@
--- `field::power` meets its contract: at the head of each turn the accumulator times base^left is the power asked for. Assumes nothing.
+-- `field::Logs::power` meets its contract: at the head of each turn the accumulator times base^left is the power asked for. Assumes nothing.
 use mathlib.Core.Path.{◌≡◌}
 use Prim.Native.Nat.{◌<◌}
 use Rattle.field.specs.Field.{mul, pow}
-use Rattle.field.proofs.power.Given as goal
+use Rattle.field.proofs.Logs.power.Given as goal
 
 abbrev pub invariant-loop-left : goal.invariant-loop-left
 invariant-loop-left l = (l.accumulator < 256) × (l.base < 256) × (mul l.accumulator (pow l.base l.left) ≡ pow l.a l.n)

@@ -1,12 +1,12 @@
--- `field::power` meets its contract: at the head of each turn the accumulator times base^left is the power asked for. Assumes nothing.
+-- `field::Logs::power` meets its contract: at the head of each turn the accumulator times base^left is the power asked for. Assumes nothing.
 use mathlib.Core.Path.{◌≡◌, sym, ap, ap₂, ◌∙◌}
 use Prim.Native.Nat.{ℕ, ◌/◌}
 use native.Mathlib.Omega.{arith}
 use Rattle.field.specs.Field.{mul, pow}
 use Rattle.field.proofs.Field.{one-mul, mul-one}
 use Rattle.field.proofs.Powers.{pow-zero, pow-lt, mul-pow_even, mul-pow_odd}
-use Rattle.field.proofs.power.Goals as goal
-use Rattle.field.proofs.power.Goals.{then-left-eq1, else-left-eq1}
+use Rattle.field.proofs.Logs.power.Goals as goal
+use Rattle.field.proofs.Logs.power.Goals.{then-left-eq1, else-left-eq1}
 
 -- 1 · a^n = a^n
 pub loop-left-init : goal.loop-left-init
