@@ -3,7 +3,7 @@
 #![tactic(auto)]
 
 // What becomes of a word: it is a code word; it is made one; there is none near enough (document 01: unchanged, changed, past help).
-#[derive(Drop)]
+#[derive(Clone, Copy, PartialEq, Eq, Debug)]
 pub enum Outcome {
     Clean,
     Corrected,
@@ -11,14 +11,14 @@ pub enum Outcome {
 }
 
 // What the light repair says of a word (document 02, request 13): it is the code word near it now; or it is heavier, and stays.
-#[derive(Drop)]
+#[derive(Clone, Copy, PartialEq, Eq, Debug)]
 pub enum LightOutcome {
     Repaired,
     Heavier,
 }
 
 // A wrong byte of a word: how many bytes stand after it, and what was added to it.
-#[derive(Drop)]
+#[derive(Clone, Copy, PartialEq, Eq, Debug)]
 pub struct WrongByte {
     pub place: u8,
     pub value: u8,

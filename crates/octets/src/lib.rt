@@ -11,11 +11,8 @@ pub fn put(to: &mut [u8], at: usize, from: &[u8])
     requires { at + length from.now ≤ length to.old }
     ensures { to.new ≡ sets to.old at from.now }
 {
-    let mut i: usize = 0;
-    while i < from.len() {
-        to[at + i] = from[i];
-        i += 1;
-    }
+    let end = at + from.len();
+    to[at..end].copy_from_slice(from);
 }
 
 // Half word k of a stream, first byte high.
@@ -23,10 +20,7 @@ pub fn half_at(stream: &[u8], k: usize) -> u16
     requires { 2 * k + 2 ≤ length stream.now }
     ensures { result ≡ half_at stream.now k }
 {
-    let at = 2 * k;
-    let high = stream[at] as u16;
-    let low = stream[at + 1] as u16;
-    high * 256 + low
+    u16::from_be_bytes([stream[2 * k], stream[2 * k + 1]])
 }
 
 // The two bytes of a half word, first byte high.
@@ -34,8 +28,9 @@ pub fn put_half(to: &mut [u8], at: usize, half: u16)
     requires { at + 1 < length to.old }
     ensures { to.new ≡ put_half to.old at half }
 {
-    to[at] = (half / 256) as u8;
-    to[at + 1] = (half % 256) as u8;
+    let [high, low] = half.to_be_bytes();
+    to[at] = high;
+    to[at + 1] = low;
 }
 
 // Bit j of a stream, first bit highest.
@@ -55,30 +50,7 @@ pub fn half_at_bit(stream: &[u8], byte: usize, offset: usize) -> u16
     ensures { result ≡ bits_at stream.now (8 * byte + offset) 16 }
 {
     let last = byte + (offset + 15) / 8;
-    let high = wide(stream[byte]);
-    let middle = wide(stream[byte + 1]);
-    let low = wide(stream[last]);
-    let n = (8 - offset) as u32;
-    ((((high * 256 + middle) * 256 + low) >> n) % 65536) as u16
-}
-
-// A byte as a number of 32 bits, and the lowest byte of one.
-pub fn wide(x: u8) -> u32
-    ensures value { result ≡ x }
-    ensures upper_bound { result < 256 }
-{
-    x as u32
-}
-
-pub fn low_byte(n: u32) -> u8
-    ensures { result ≡ n % 256 }
-{
-    (n % 256) as u8
-}
-
-// A byte as an index.
-pub fn index(x: u8) -> usize
-    ensures { result ≡ x }
-{
-    x as usize
+    let three = u32::from_be_bytes([0, stream[byte], stream[byte + 1], stream[last]]);
+    let n = 8 - offset as u32;
+    ((three >> n) % 65536) as u16
 }
