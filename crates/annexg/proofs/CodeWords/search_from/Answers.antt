@@ -1,4 +1,4 @@
--- `annexg::search_from` meets its contract. The search is followed entry by entry: what is left of it from each place on is `read_from`.
+-- `annexg::CodeWords::search_from` meets its contract. The search is followed entry by entry: what is left of it from each place on is `read_from`.
 -- Assumes nothing.
 use mathlib.Core.Path.{◌≡◌, sym, ap, ◌∙◌}
 use mathlib.Core.Bool.{true, false}
@@ -6,11 +6,11 @@ use Prim.Native.Nat.{ℕ, suc, ◌+◌, ◌*◌, ◌≤◌, ◌<◌}
 use native.Mathlib.Omega.{arith}
 use borrow.Author.Rules.{rules}
 use lib.ListN.{length, get_or}
-use Rattle.annexg.specs.Read.{table_of, fits_of, reading_number}
+use Rattle.annexg.specs.Read.{table_of, fits_of}
 use Rattle.annexg.specs.Inner.{read_from}
-use Rattle.annexg.specs.declared.Reading.TheVariants.{Byte}
+use Rattle.std.specs.Prelude.{Some}
 use Rattle.annexg.proofs.Search.{from_unfit, from_fit, from_end, from_past}
-use Rattle.annexg.proofs.search_from.Goals as goal
+use Rattle.annexg.proofs.CodeWords.search_from.Goals as goal
 
 pub found-init : goal.found-init
 found-init c = let a = c.args in
@@ -57,9 +57,9 @@ returns-then-fits c = let a = c.args in
     let fit : fits_of a.word a.zero (get_or (table_of t) k 0) ≡ true =
     ap (fits_of a.word a.zero) (sym c.entry-e.ensures) ∙ sym c.fits.ensures ∙ c.if-fits.true
     in
-    sym (ap reading_number (c.loop-s.invariant.1 ∙ from_fit a.word a.zero t k two inside fit ∙ ap Byte (omega arith)))
+    sym (c.loop-s.invariant.1 ∙ from_fit a.word a.zero t k two inside fit ∙ ap Some (omega arith))
 
 pub returns-after-loop-t : goal.returns-after-loop-t
 returns-after-loop-t c = let a = c.args in
     let past : 2 ≤ c.loop-t.t = omega (arith, c.loop-t-test.false) in
-    sym (ap reading_number (c.loop-t.invariant.1 ∙ from_past a.word a.zero c.loop-t.t _ past))
+    sym (c.loop-t.invariant.1 ∙ from_past a.word a.zero c.loop-t.t _ past)

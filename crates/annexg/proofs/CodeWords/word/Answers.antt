@@ -1,8 +1,8 @@
--- `annexg::word_at` meets its contract.
+-- `annexg::CodeWords::word` meets its contract.
 -- Assumes nothing.
 use native.Mathlib.Omega.{arith}
 use Rattle.annexg.proofs.Figure.{entry_below}
-use Rattle.annexg.proofs.word_at.Goals as goal
+use Rattle.annexg.proofs.CodeWords.word.Goals as goal
 
 pub overflow_cast-result : goal.overflow_cast-result
 overflow_cast-result c = let a = c.args in

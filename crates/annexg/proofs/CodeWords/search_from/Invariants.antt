@@ -1,27 +1,18 @@
--- `annexg::search_from` meets its contract. The search is followed entry by entry: what is left of it from each place on is `read_from`.
+-- `annexg::CodeWords::search_from` meets its contract. The search is followed entry by entry: what is left of it from each place on is `read_from`.
 -- Assumes nothing.
 use mathlib.Core.Path.{◌≡◌}
-use Prim.Native.Nat.{◌+◌, ◌*◌, ◌-◌, ◌≤◌}
+use Prim.Native.Nat.{◌+◌, ◌*◌, ◌≤◌}
 use Rattle.annexg.specs.Inner.{read_from}
-use Rattle.annexg.proofs.search_from.Given as goal
+use Rattle.annexg.proofs.CodeWords.search_from.Given as goal
 
 abbrev pub invariant-loop-s : goal.invariant-loop-s
 invariant-loop-s l = (l.s ≤ 4) × (read_from l.word l.zero l.table l.at ≡ read_from l.word l.zero l.t (l.b * 4 + l.s))
 
-abbrev pub decreases-loop-s : goal.decreases-loop-s
-decreases-loop-s l = 4 - l.s
-
 abbrev pub invariant-loop-b : goal.invariant-loop-b
 invariant-loop-b l = (l.column ≤ 3) × (read_from l.word l.zero l.table l.at ≡ read_from l.word l.zero l.t (l.b * 4 + l.column))
 
-abbrev pub decreases-loop-b : goal.decreases-loop-b
-decreases-loop-b l = l.n - l.b
-
 abbrev pub invariant-loop-t : goal.invariant-loop-t
 invariant-loop-t l = (l.column ≤ 3) × (read_from l.word l.zero l.table l.at ≡ read_from l.word l.zero l.t (l.byte * 4 + l.column))
-
-abbrev pub decreases-loop-t : goal.decreases-loop-t
-decreases-loop-t l = 2 - l.t
 
 abbrev pub invariant-found : goal.invariant-found
 invariant-found l = (l.column ≤ 3) × (read_from l.word l.zero l.table l.at ≡ read_from l.word l.zero l.table (l.byte * 4 + l.column))
