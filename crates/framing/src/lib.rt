@@ -4,26 +4,25 @@
 
 ghost use Rattle.std.specs.Prelude.{◌≡◌, ◌+◌, ◌*◌, ◌<◌, ◌≤◌, ◌^◌, [], length, MatchOption};
 ghost use Rattle.annexg.specs.Read.{table_of};
-ghost use Rattle.annexg.specs.Sync.{is_sync, sync_table};
+ghost use Rattle.annexg.specs.Sync.{is_sync};
 ghost use Rattle.wordindex.specs.Inner.{word_index};
 ghost use Rattle.channel.specs.Block.{some_from};
 ghost use Rattle.layout.specs.Lengths.{frame_bits, longest_capture};
 ghost use Rattle.framing.specs.Frames.{bit_count, sync_at, frame_at, frames_from, bytes_of_frame};
 ghost use Rattle.framing.specs.Inner.{NextFrame};
 
+use annexg::SyncCodes;
 use layout::{FRAME_BYTES, FRAME_STREAM};
 
 // Two half words are a SYNC Code of table 4, whatever its number.
-fn any_sync(syncs: &[u16; 32], first: u16, second: u16) -> bool
-    requires { syncs.now ≡ sync_table }
+fn any_sync(syncs: &SyncCodes, first: u16, second: u16) -> bool
     ensures { result ≡ some_from (λ n. is_sync n first second) 0 8 }
 {
-    (0..8).any(|n| annexg::is_sync(syncs, n, first, second))
+    (0..8).any(|n| syncs.is_sync(n, first, second))
 }
 
 // A full SYNC Code stands at bit 8 · byte + offset. Its second half word, which is the same in all of them, is looked at first: hardly any other bits have it.
-fn sync_at(syncs: &[u16; 32], stream: &[u8], byte: usize, offset: usize) -> bool
-    requires syncs_value { syncs.now ≡ sync_table }
+fn sync_at(syncs: &SyncCodes, stream: &[u8], byte: usize, offset: usize) -> bool
     requires offset_bound { offset < 8 }
     requires byte_bound { byte < 2 ^ 62 }
     ensures { result ≡ sync_at stream.now (8 * byte + offset) }
@@ -36,8 +35,7 @@ fn sync_at(syncs: &[u16; 32], stream: &[u8], byte: usize, offset: usize) -> bool
 }
 
 // A Sync Frame starts at a bit.
-pub fn frame_at(syncs: &[u16; 32], stream: &[u8], at: usize) -> bool
-    requires { syncs.now ≡ sync_table }
+pub fn frame_at(syncs: &SyncCodes, stream: &[u8], at: usize) -> bool
     ensures { result ≡ frame_at stream.now at }
 {
     let byte = at / 8;
@@ -46,9 +44,8 @@ pub fn frame_at(syncs: &[u16; 32], stream: &[u8], at: usize) -> bool
 }
 
 // The next bit at which the look takes a frame.
-pub fn next_frame(syncs: &[u16; 32], stream: &[u8], from: usize) -> Option<usize>
-    requires syncs_value { syncs.now ≡ sync_table }
-    requires stream_len_bound { length stream.now ≤ longest_capture }
+pub fn next_frame(syncs: &SyncCodes, stream: &[u8], from: usize) -> Option<usize>
+    requires { length stream.now ≤ longest_capture }
     ensures { MatchOption result (frames_from stream.now from ≡ []) (NextFrame stream.now from) }
 {
     (from..stream.len() * 8).find(|&at| frame_at(syncs, stream, at))
