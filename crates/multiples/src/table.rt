@@ -1,20 +1,7 @@
-// The multiples of the generators.
-ghost use Rattle.std.specs.Prelude.{◌≡◌};
-ghost use Rattle.multiples.specs.Inner.{multiples};
+// The multiples of the generators: entries 2 h and 2 h + 1 are h times the generator, without its first coefficient.
 
-pub fn multiples10() -> [u64; 512]
-    ensures { result ≡ multiples 10 }
-{
-    MULTIPLES10
-}
-
-pub fn multiples16() -> [u64; 512]
-    ensures { result ≡ multiples 16 }
-{
-    MULTIPLES16
-}
-
-const MULTIPLES10: [u64; 512] = [
+// Of the inner code.
+pub(crate) const TEN_ROOTS: [u64; 512] = [
     0x0000000000000000,
     0x0000000000000000,
     0xd8c29f6fc75e5f71,
@@ -529,7 +516,8 @@ const MULTIPLES10: [u64; 512] = [
     0xa6ac000000000000,
 ];
 
-const MULTIPLES16: [u64; 512] = [
+// Of the outer code.
+pub(crate) const SIXTEEN_ROOTS: [u64; 512] = [
     0x0000000000000000,
     0x0000000000000000,
     0x3b0d68bd44d11e08,
