@@ -14,8 +14,7 @@ use Rattle.lists.proofs.Test.{every-at}
 use Rattle.annexg.specs.Read.{table_of, entry_of, fits_of, first_fit, read_given}
 use Rattle.annexg.specs.Inner.{read_from}
 use Rattle.annexg.specs.Tables.{main_table, sub_table}
-use Rattle.annexg.specs.declared.Reading.{Reading}
-use Rattle.annexg.specs.declared.Reading.TheVariants.{Byte, Unknown}
+use Rattle.std.specs.Prelude.{Option, Some, None}
 
 pub length_main : length (table_of 0) ≡ 1024
 unfolding table_of main_table
@@ -47,12 +46,6 @@ column_is b s h = omega arith
 
 -- ---- an entry, read from lent tables
 
-pub main_read : (m : List ℕ) (t k : ℕ) → m ≡ table_of 0 → t ≡ 0 → get_or m k 0 ≡ get_or (table_of t) k 0
-main_read m t k e h = rw (e, h)
-
-pub main_past : (t k : ℕ) → t ≡ 0 → 1024 ≤ k → 0 ≡ get_or (table_of t) k 0
-main_past t k h l = rw h (sym (get_or-eq_default (table_of 0) 0 (omega (arith, length_main))))
-
 -- any number but 0 names the substitution table
 pub sub_is : (t : ℕ) → (t ≡ 0 → ⊥) → table_of t ≡ table_of 1
 unfolding table_of
@@ -68,15 +61,15 @@ sub_past t k h l = rw (sub_is t h) (sym (get_or-eq_default (table_of 1) 0 (omega
 -- ---- the search from entry k of table t on
 
 module _ (w : ℕ) (z : Bool) where
-  first_unfit : (l : List ℕ) (k : ℕ) (d : Reading) → k < length l → fits_of w z (get_or l k 0) ≡ false → first_fit w z (drop k l) k d ≡ first_fit w z (drop (suc k) l) (suc k) d
+  first_unfit : (l : List ℕ) (k : ℕ) (d : Option ℕ) → k < length l → fits_of w z (get_or l k 0) ≡ false → first_fit w z (drop k l) k d ≡ first_fit w z (drop (suc k) l) (suc k) d
   unfolding first_fit
   first_unfit l k d h e = rw (drop-cons l k 0 h, first_fit, e)
 
-  first_fit_lem : (l : List ℕ) (k : ℕ) (d : Reading) → k < length l → fits_of w z (get_or l k 0) ≡ true → first_fit w z (drop k l) k d ≡ Byte (k / 4)
+  first_fit_lem : (l : List ℕ) (k : ℕ) (d : Option ℕ) → k < length l → fits_of w z (get_or l k 0) ≡ true → first_fit w z (drop k l) k d ≡ Some (k / 4)
   unfolding first_fit
   first_fit_lem l k d h e = rw (drop-cons l k 0 h, first_fit, e)
 
-  first_none : (l : List ℕ) (k : ℕ) (d : Reading) → length l ≤ k → first_fit w z (drop k l) k d ≡ d
+  first_none : (l : List ℕ) (k : ℕ) (d : Option ℕ) → length l ≤ k → first_fit w z (drop k l) k d ≡ d
   unfolding first_fit
   first_none l k d h = rw (drop_of_length-le l h)
 
@@ -86,23 +79,23 @@ module _ (w : ℕ) (z : Bool) where
 
   pub from_unfit : (t k : ℕ) → t < 2 → k < length (table_of t) → fits_of w z (get_or (table_of t) k 0) ≡ false → read_from w z t k ≡ read_from w z t (suc k)
   unfolding read_from
-  from_unfit zero k ht h e = first_unfit (table_of 0) k (first_fit w z (table_of 1) 0 Unknown) h e
-  from_unfit (suc zero) k ht h e = first_unfit (table_of 1) k Unknown h e
+  from_unfit zero k ht h e = first_unfit (table_of 0) k (first_fit w z (table_of 1) 0 None) h e
+  from_unfit (suc zero) k ht h e = first_unfit (table_of 1) k None h e
   from_unfit (suc (suc t)) k ht h e = refl
 
-  pub from_fit : (t k : ℕ) → t < 2 → k < length (table_of t) → fits_of w z (get_or (table_of t) k 0) ≡ true → read_from w z t k ≡ Byte (k / 4)
+  pub from_fit : (t k : ℕ) → t < 2 → k < length (table_of t) → fits_of w z (get_or (table_of t) k 0) ≡ true → read_from w z t k ≡ Some (k / 4)
   unfolding read_from
-  from_fit zero k ht h e = first_fit_lem (table_of 0) k (first_fit w z (table_of 1) 0 Unknown) h e
-  from_fit (suc zero) k ht h e = first_fit_lem (table_of 1) k Unknown h e
+  from_fit zero k ht h e = first_fit_lem (table_of 0) k (first_fit w z (table_of 1) 0 None) h e
+  from_fit (suc zero) k ht h e = first_fit_lem (table_of 1) k None h e
   from_fit (suc (suc t)) k ht h e = absurd (omega arith)
 
   pub from_end : (t k : ℕ) → t < 2 → length (table_of t) ≤ k → read_from w z t k ≡ read_from w z (suc t) 0
   unfolding read_from
-  from_end zero k ht h = first_none (table_of 0) k (first_fit w z (table_of 1) 0 Unknown) h
-  from_end (suc zero) k ht h = first_none (table_of 1) k Unknown h
+  from_end zero k ht h = first_none (table_of 0) k (first_fit w z (table_of 1) 0 None) h
+  from_end (suc zero) k ht h = first_none (table_of 1) k None h
   from_end (suc (suc t)) k ht h = refl
 
-  pub from_past : (t k : ℕ) → 2 ≤ t → read_from w z t k ≡ Unknown
+  pub from_past : (t k : ℕ) → 2 ≤ t → read_from w z t k ≡ None
   unfolding read_from
   from_past zero k h = absurd (omega arith)
   from_past (suc zero) k h = absurd (omega arith)

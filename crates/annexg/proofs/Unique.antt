@@ -20,8 +20,7 @@ use Rattle.annexg.specs.Read.{table_of, entry_of, both_zero, agrees, fits_of, fi
 use Rattle.annexg.specs.Inner.{read_from}
 use Rattle.annexg.specs.Tables.{main_table, sub_table}
 use Rattle.annexg.proofs.Search.{each_table, in_table, from_unfit, from_fit, from_end, from_past}
-use Rattle.annexg.specs.declared.Reading.{Reading}
-use Rattle.annexg.specs.declared.Reading.TheVariants.{Byte, Unknown}
+use Rattle.std.specs.Prelude.{Option, Some, None}
 
 pub data Tree : Type 0 where
   leaf : Tree
@@ -95,41 +94,41 @@ module _ (w : ℕ) (q : Bool) where
       let p : i + suc j ≡ suc i + j = omega arith in
       a (suc j) (suc-le-suc h) e ∙ ap (λ (n : ℕ). n / 4) p
 
-  here : (x : ℕ) (l : List ℕ) (i o : ℕ) → Owned (x ∷ l) i o → fits_of w q x ≡ true → Byte (i / 4) ≡ Byte o
+  here : (x : ℕ) (l : List ℕ) (i o : ℕ) → Owned (x ∷ l) i o → fits_of w q x ≡ true → Some (i / 4) ≡ Some o
   unfolding Owned
-  here x l i o a e = ap Byte (sym (a 0 (suc-le-suc zero-le) e ∙ ap (λ (n : ℕ). n / 4) (add-zero i)))
+  here x l i o a e = ap Some (sym (a 0 (suc-le-suc zero-le) e ∙ ap (λ (n : ℕ). n / 4) (add-zero i)))
 
-  step : (b : Bool) (r s o : Reading) → (b ≡ true → r ≡ o) → (b ≡ false → s ≡ o) → cond b r s ≡ o
+  step : (b : Bool) (r s o : Option ℕ) → (b ≡ true → r ≡ o) → (b ≡ false → s ≡ o) → cond b r s ≡ o
   step true r s o f g = f refl
   step false r s o f g = g refl
 
   -- where all that fit have the byte o, the first has, or the search falls through
-  first_or : (l : List ℕ) (i o : ℕ) (d : Reading) → Owned l i o → d ≡ Byte o → first_fit w q l i d ≡ Byte o
+  first_or : (l : List ℕ) (i o : ℕ) (d : Option ℕ) → Owned l i o → d ≡ Some o → first_fit w q l i d ≡ Some o
   unfolding first_fit
   first_or [] i o d a e = e
   first_or (x ∷ l) i o d a e =
-      step (fits_of w q x) (Byte (i / 4)) (first_fit w q l (suc i) d) (Byte o) (here x l i o a)
+      step (fits_of w q x) (Some (i / 4)) (first_fit w q l (suc i) d) (Some o) (here x l i o a)
       (λ n. first_or l (suc i) o d (owned_tail x l i o a) e)
 
-  first_of_lem : (l : List ℕ) (i o : ℕ) (d : Reading) → Owned l i o → (k : ℕ) → k < length l → fits_of w q (get_or l k 0) ≡ true → first_fit w q l i d ≡ Byte o
+  first_of_lem : (l : List ℕ) (i o : ℕ) (d : Option ℕ) → Owned l i o → (k : ℕ) → k < length l → fits_of w q (get_or l k 0) ≡ true → first_fit w q l i d ≡ Some o
   unfolding first_fit
   first_of_lem [] i o d a k h e = absurd (not-suc-le-zero h)
   first_of_lem (x ∷ l) i o d a zero h e =
-      step (fits_of w q x) (Byte (i / 4)) (first_fit w q l (suc i) d) (Byte o) (here x l i o a) (λ n. absurd (unlike (fits_of w q x) e n))
+      step (fits_of w q x) (Some (i / 4)) (first_fit w q l (suc i) d) (Some o) (here x l i o a) (λ n. absurd (unlike (fits_of w q x) e n))
   first_of_lem (x ∷ l) i o d a (suc k) h e =
-      step (fits_of w q x) (Byte (i / 4)) (first_fit w q l (suc i) d) (Byte o) (here x l i o a)
+      step (fits_of w q x) (Some (i / 4)) (first_fit w q l (suc i) d) (Some o) (here x l i o a)
       (λ n. first_of_lem l (suc i) o d (owned_tail x l i o a) k (le_of_suc-le-suc h) e)
 
   all_owned : (t : ℕ) → t < 2 → Owned (table_of t) 0 (owner w q)
   unfolding Owned
   all_owned t ht j h e = entry_owned t j ht h e ∙ ap (λ (n : ℕ). n / 4) (sym (zero-add j))
 
-  found : (t k : ℕ) → t < 2 → k < length (table_of t) → fits_of w q (get_or (table_of t) k 0) ≡ true → read_given w q ≡ Byte (owner w q)
+  found : (t k : ℕ) → t < 2 → k < length (table_of t) → fits_of w q (get_or (table_of t) k 0) ≡ true → read_given w q ≡ Some (owner w q)
   unfolding read_given
-  found zero k ht h e = first_of_lem (table_of 0) 0 (owner w q) (first_fit w q (table_of 1) 0 Unknown) (all_owned 0 ht) k h e
+  found zero k ht h e = first_of_lem (table_of 0) 0 (owner w q) (first_fit w q (table_of 1) 0 None) (all_owned 0 ht) k h e
   found (suc zero) k ht h e =
-      first_or (table_of 0) 0 (owner w q) (first_fit w q (table_of 1) 0 Unknown) (all_owned 0 (lit< tt))
-      (first_of_lem (table_of 1) 0 (owner w q) Unknown (all_owned 1 ht) k h e)
+      first_or (table_of 0) 0 (owner w q) (first_fit w q (table_of 1) 0 None) (all_owned 0 (lit< tt))
+      (first_of_lem (table_of 1) 0 (owner w q) None (all_owned 1 ht) k h e)
   found (suc (suc t)) k ht h e = absurd (not-suc-le-zero (le_of_suc-le-suc (le_of_suc-le-suc ht)))
 
   -- no word stands for two bytes
@@ -139,15 +138,15 @@ module _ (w : ℕ) (q : Bool) where
   one_byte t k t' k' ht h e ht' h' e' = sym (entry_owned t k ht h e) ∙ entry_owned t' k' ht' h' e'
 
   -- an entry that fits is read as its byte
-  pub reads_fit : (t k : ℕ) → t < 2 → k < length (table_of t) → fits_of w q (get_or (table_of t) k 0) ≡ true → read_given w q ≡ Byte (k / 4)
-  reads_fit t k ht h e = found t k ht h e ∙ ap Byte (entry_owned t k ht h e)
+  pub reads_fit : (t k : ℕ) → t < 2 → k < length (table_of t) → fits_of w q (get_or (table_of t) k 0) ≡ true → read_given w q ≡ Some (k / 4)
+  reads_fit t k ht h e = found t k ht h e ∙ ap Some (entry_owned t k ht h e)
 
   -- from an entry that fits on, the search finds what it finds from the first
   pub fit_from_given : (t k : ℕ) → t < 2 → k < length (table_of t) → fits_of w q (get_or (table_of t) k 0) ≡ true → read_from w q t k ≡ read_given w q
   fit_from_given t k ht h e = from_fit w q t k ht h e ∙ sym (reads_fit t k ht h e)
 
   -- what fits nothing is unknown from every entry on
-  module _ (unknown : read_given w q ≡ Unknown) where
+  module _ (unknown : read_given w q ≡ None) where
     unfit : (t k : ℕ) → t < 2 → k < length (table_of t) → fits_of w q (get_or (table_of t) k 0) ≡ false
     unfit t k ht h = case (fits_of w q (get_or (table_of t) k 0)) refl
       where
@@ -162,15 +161,15 @@ module _ (w : ℕ) (q : Bool) where
         dite (dec_lt k (length (table_of t))) (λ l. from_unfit w q t k ht l (unfit t k ht l) ∙ left_out t n (suc k) ht (omega arith))
         (λ l. from_end w q t k ht (omega (arith, l)))
 
-    pub unknown_from : (t k : ℕ) → read_from w q t k ≡ Unknown
+    pub unknown_from : (t k : ℕ) → read_from w q t k ≡ None
     unknown_from zero k =
         left_out 0 (length (table_of 0)) k (lit< tt) (omega arith) ∙ left_out 1 (length (table_of 1)) 0 (lit< tt) (omega arith) ∙ from_past w q 2 0 (lit≤ tt)
     unknown_from (suc zero) k = left_out 1 (length (table_of 1)) k (lit< tt) (omega arith) ∙ from_past w q 2 0 (lit≤ tt)
     unknown_from (suc (suc t)) k = from_past w q (suc (suc t)) k (omega arith)
 
 -- each entry's word, before bits that agree with its next State, is read as its byte
-pub reads_back : (t b s f : ℕ) → t < 2 → b * 4 < length (table_of t) → s < 4 → agrees (entry_of t b s % 16) (both_zero f) ≡ true → read_word (entry_of t b s / 16) f ≡ Byte b
+pub reads_back : (t b s f : ℕ) → t < 2 → b * 4 < length (table_of t) → s < 4 → agrees (entry_of t b s % 16) (both_zero f) ≡ true → read_word (entry_of t b s / 16) f ≡ Some b
 unfolding fits_of
 reads_back t b s f ht hb hs e =
     let k : (b * 4 + s) / 4 ≡ b = omega arith in
-    reads_fit (entry_of t b s / 16) (both_zero f) t (b * 4 + s) ht (in_table t b s ht hb hs) (rw (eq-eqb (entry_of t b s / 16) (entry_of t b s / 16) refl) e) ∙ ap Byte k
+    reads_fit (entry_of t b s / 16) (both_zero f) t (b * 4 + s) ht (in_table t b s ht hb hs) (rw (eq-eqb (entry_of t b s / 16) (entry_of t b s / 16) refl) e) ∙ ap Some k

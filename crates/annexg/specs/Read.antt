@@ -1,11 +1,9 @@
 -- Entries of annex G's tables (table_of, entry_of, word_of, next_of), and the byte that a Code Word stands for (document 01, "Reading a word"): the test of an entry
--- (both_zero, agrees, fits_of), the search (first_fit, read_given, read_word), its answer as a number (reading_number), and document 01's words (StandsFor).
+-- (both_zero, agrees, fits_of), the search (first_fit, read_given, read_word), and document 01's words (StandsFor). An unknown word is read as none.
 -- A half word is 16 bits of the channel, the first bit highest: a Code Word is one half word, a SYNC Code two. Its bit 15 comes first.
 -- Assumes nothing.
-use Rattle.std.specs.Prelude.{◌≡◌, Bool, true, not, cond, ◌&&◌, List, [], ◌∷◌, ℕ, zero, suc, ◌+◌, ◌*◌, ◌/◌, ◌%◌, ◌<◌, ◌≤◌, T, eqb, get_or, length}
+use Rattle.std.specs.Prelude.{◌≡◌, Bool, true, not, cond, ◌&&◌, List, [], ◌∷◌, ℕ, zero, suc, ◌+◌, ◌*◌, ◌/◌, ◌%◌, ◌<◌, ◌≤◌, T, eqb, get_or, length, Option, Some, None}
 use Rattle.annexg.specs.Tables.{main_table, sub_table}
-use Rattle.annexg.specs.declared.Reading.{Reading}
-use Rattle.annexg.specs.declared.Reading.TheVariants.{Byte, Unknown}
 
 -- the States are 1 to 4
 pub record State (s : ℕ) : Type 0 where
@@ -42,21 +40,16 @@ unfoldable pub fits_of : ℕ → Bool → ℕ → Bool
 fits_of w z e = eqb (e / 16) w && agrees (e % 16) z
 
 -- the byte of the first entry of a list that fits, where the first of the list is entry k of its table; d where none fits
-unfoldable pub first_fit : ℕ → Bool → List ℕ → ℕ → Reading → Reading
+unfoldable pub first_fit : ℕ → Bool → List ℕ → ℕ → Option ℕ → Option ℕ
 first_fit w z [] k d = d
-first_fit w z (e ∷ es) k d = cond (fits_of w z e) (Byte (k / 4)) (first_fit w z es (suc k) d)
+first_fit w z (e ∷ es) k d = cond (fits_of w z e) (Some (k / 4)) (first_fit w z es (suc k) d)
 
 -- the search through the columns stops at the first entry that fits: main table, then substitution table, byte by byte, State by State
-unfoldable pub read_given : ℕ → Bool → Reading
-read_given w z = first_fit w z (table_of 0) 0 (first_fit w z (table_of 1) 0 Unknown)
-
--- a reading as a number: its byte, or 256 for an unknown word
-abbrev pub reading_number : Reading → ℕ
-reading_number (Byte b) = b
-reading_number Unknown = 256
+unfoldable pub read_given : ℕ → Bool → Option ℕ
+read_given w z = first_fit w z (table_of 0) 0 (first_fit w z (table_of 1) 0 None)
 
 -- what the word w is read as where the half word f follows
-abbrev pub read_word : ℕ → ℕ → Reading
+abbrev pub read_word : ℕ → ℕ → Option ℕ
 read_word w f = read_given w (both_zero f)
 
 -- document 01: some column of either table has the word w for byte b, with a next State that agrees with bits 15 and 3 of the half word f that follows

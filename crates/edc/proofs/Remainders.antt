@@ -1,13 +1,13 @@
 -- EDC is linear: what a sum leaves is the sum of what its parts leave. From this four bytes in one step, by a table.
 -- Assumes nothing.
-use mathlib.Core.Path.{◌≡◌, refl, sym, ap, ap₂, ◌∙◌}
+use mathlib.Core.Path.{◌≡◌, refl, sym, ap, ap₂, ◌∙◌, subst}
 use mathlib.Core.List.{List, [], ◌∷◌}
 use Prim.Native.Nat.{ℕ, zero, suc, ◌+◌, ◌*◌, ◌^◌, ◌/◌, ◌%◌, ◌<◌}
 use native.Mathlib.Omega.{arith}
-use lib.ListN.{get_or, replicate}
+use lib.ListN.{length, get_or, replicate}
 use Rattle.lists.proofs.Fill.{get_d_tabulate}
 use Rattle.field.specs.Field.{add}
-use Rattle.field.proofs.Sums.{bit, add_assoc, zero-add, add-zero, add_swap, add_cancel, add-mod, add_shift, digit_add, bit_times, sum-bit}
+use Rattle.field.proofs.Sums.{bit, add_assoc, zero-add, add-zero, add-lt, add_swap, add_cancel, add-mod, add_shift, digit_add, bit_times, sum-bit}
 use Rattle.edc.specs.Edc.{edc_bit, edc_bits, edc_from, four_bytes}
 use Rattle.edc.specs.Inner.{edc_entry, edc_table}
 use Rattle.edc.proofs.LongDivision.{absorb_four}
@@ -110,16 +110,28 @@ entry_at t k h e l m =
 
 -- four bytes in one step, by the table
 pub table_four :
-    (t : List ℕ) (r a b c d h i j k : ℕ) → t ≡ edc_table → r < 4294967296
-    → (h ≡ add (r / 16777216) a) × (h < 256) → (i ≡ add (r / 65536 % 256) b) × (i < 256) → (j ≡ add (r / 256 % 256) c) × (j < 256)
-    → (k ≡ add (r % 256) d) × (k < 256)
-    → add (add (add (get_or t (768 + h) 0) (get_or t (512 + i) 0)) (get_or t (256 + j) 0)) (get_or t k 0) ≡ edc_from r (a ∷ b ∷ c ∷ d ∷ [])
-table_four t r a b c d h i j k e l ph pi pj pk =
+    (t w ys : List ℕ) (r h i j k : ℕ) → t ≡ edc_table → r < 4294967296 → length w ≡ 4 → ((n : ℕ) → get_or w n 0 < 256) → ys ≡ four_bytes r
+    → h ≡ add (get_or ys 0 0) (get_or w 0 0) → i ≡ add (get_or ys 1 0) (get_or w 1 0) → j ≡ add (get_or ys 2 0) (get_or w 2 0)
+    → k ≡ add (get_or ys 3 0) (get_or w 3 0)
+    → add (add (add (get_or t (768 + h) 0) (get_or t (512 + i) 0)) (get_or t (256 + j) 0)) (get_or t k 0) ≡ edc_from r w
+unfolding four_bytes
+table_four t (a ∷ b ∷ c ∷ d ∷ []) ys r h i j k e l four fits parts ph pi pj pk =
+    let at = λ (n : ℕ) (x y : ℕ). ap (λ (zs : List ℕ). add (get_or zs n 0) y) parts in
+    let first : r / 16777216 % 256 ≡ r / 16777216 = omega arith in
+    let eh : h ≡ add (r / 16777216 % 256) a = ph ∙ at 0 0 a in
+    let ei : i ≡ add (r / 65536 % 256) b = pi ∙ at 1 0 b in
+    let ej : j ≡ add (r / 256 % 256) c = pj ∙ at 2 0 c in
+    let ek : k ≡ add (r % 256) d = pk ∙ at 3 0 d in
     let n : k ≡ 256 * 0 + k = omega arith in
     ap₂ add
-    (ap₂ add (ap₂ add (entry_at t 3 h e (omega arith) ph.1) (entry_at t 2 i e (omega arith) pi.1)) (entry_at t 1 j e (omega arith) pj.1))
-    (ap (λ (x : ℕ). get_or t x 0) n ∙ entry_at t 0 k e (omega arith) pk.1)
+    (ap₂ add (ap₂ add (entry_at t 3 h e (omega arith) (byte _ eh (fits 0))) (entry_at t 2 i e (omega arith) (byte _ ei (fits 1)))) (entry_at t 1 j e (omega arith) (byte _ ej (fits 2))))
+    (ap (λ (x : ℕ). get_or t x 0) n ∙ entry_at t 0 k e (omega arith) (byte _ ek (fits 3)))
     ∙ sym (four_parts h i j k)
-    ∙ ap₂ (λ (x y : ℕ). edc_from 0 (x ∷ y ∷ j ∷ k ∷ [])) ph.0 pi.0
-    ∙ ap₂ (λ (x y : ℕ). edc_from 0 (add (r / 16777216) a ∷ add (r / 65536 % 256) b ∷ x ∷ y ∷ [])) pj.0 pk.0
+    ∙ ap₂ (λ (x y : ℕ). edc_from 0 (x ∷ y ∷ j ∷ k ∷ [])) eh ei
+    ∙ ap₂ (λ (x y : ℕ). edc_from 0 (add (r / 16777216 % 256) a ∷ add (r / 65536 % 256) b ∷ x ∷ y ∷ [])) ej ek
+    ∙ ap (λ (x : ℕ). edc_from 0 (add x a ∷ add (r / 65536 % 256) b ∷ add (r / 256 % 256) c ∷ add (r % 256) d ∷ [])) first
     ∙ sym (edc_four r a b c d l)
+  where
+    byte : {x : ℕ} (y : ℕ) {z : ℕ} → x ≡ add (y % 256) z → z < 256 → x < 256
+    byte {x} y {z} q m = subst (λ (v : ℕ). v < 256) (sym q) (add-lt (omega arith) m)
+table_four t _ ys r h i j k e l four fits parts ph pi pj pk = absurd (omega arith)

@@ -1,33 +1,38 @@
--- EDC, byte by byte and four at a time.
+-- EDC, four bytes at a time.
 -- Assumes nothing.
-use mathlib.Core.Path.{◌≡◌, refl, ap, ◌∙◌}
-use mathlib.Core.List.{List, [], ◌∷◌}
-use Prim.Native.Nat.{ℕ, ◌+◌, ◌<◌, ◌≤◌}
-use native.Mathlib.Numerals.{add-one}
+use mathlib.Core.Path.{◌≡◌, refl, sym, ap, ap₂, ◌∙◌}
+use mathlib.Core.List.{List, [], ◌∷◌, ◌++◌}
+use Prim.Native.Nat.{ℕ, zero, suc, ◌+◌, ◌*◌, ◌/◌, ◌<◌, ◌≤◌}
+use native.Mathlib.Nat.{zero-mul}
 use native.Mathlib.Omega.{arith}
-use lib.ListN.{length, get_or, drop, drop_of_length-le}
-use lib.Seq.{drop-cons}
+use lib.ListN.{length, get_or, take, drop, drop_of_length-le}
+use Rattle.std.specs.Simd.{first_chunks}
+use Rattle.std.proofs.lemmas.List.{drop-drop, take-append-drop}
 use Rattle.lists.specs.Bytes.{Bytes}
 use Rattle.edc.specs.Edc.{edc_bits, edc_from, four_bytes, edc_of}
 
-edc_next : (r : ℕ) (xs : List ℕ) (i : ℕ) → i < length xs → edc_from (edc_bits r (get_or xs i 0) 8) (drop (i + 1) xs) ≡ edc_from r (drop i xs)
-unfolding edc_from
-edc_next r xs i h = rw (drop-cons xs i 0, add-one)
+chunk_at : (n k i : ℕ) (xs d : List ℕ) → i < k → get_or (first_chunks n k xs) i d ≡ take n (drop (i * n) xs)
+chunk_at n zero i xs d h = absurd (omega arith)
+chunk_at n (suc k) zero xs d h = ap (λ (m : ℕ). take n (drop m xs)) (sym (zero-mul n))
+chunk_at n (suc k) (suc i) xs d h =
+    let e : n + i * n ≡ suc i * n = omega arith in
+    chunk_at n k i (drop n xs) d (omega arith) ∙ ap (take n) (drop-drop (i * n) n xs ∙ ap (λ (m : ℕ). drop m xs) e)
 
-pub edc_next_four :
-    (r : ℕ) (xs : List ℕ) (i : ℕ) → i + 3 < length xs
-    → edc_from (edc_from r (get_or xs i 0 ∷ get_or xs (i + 1) 0 ∷ get_or xs (i + 2) 0 ∷ get_or xs (i + 3) 0 ∷ [])) (drop (i + 4) xs) ≡ edc_from r (drop i xs)
+from-append : (r : ℕ) (xs ys : List ℕ) → edc_from r (xs ++ ys) ≡ edc_from (edc_from r xs) ys
 unfolding edc_from
-edc_next_four r xs i h =
-    let r₁ : ℕ = edc_bits r (get_or xs i 0) 8 in
-    let r₂ : ℕ = edc_bits r₁ (get_or xs (i + 1) 0) 8 in
-    let r₃ : ℕ = edc_bits r₂ (get_or xs (i + 2) 0) 8 in
-    let e₂ : i + 2 ≡ i + 1 + 1 = omega arith in
-    let e₃ : i + 3 ≡ i + 2 + 1 = omega arith in
-    let e₄ : i + 4 ≡ i + 3 + 1 = omega arith in
-    ap (λ (n : ℕ). edc_from (edc_bits r₃ (get_or xs (i + 3) 0) 8) (drop n xs)) e₄ ∙ edc_next r₃ xs (i + 3) h
-    ∙ ap (λ (n : ℕ). edc_from r₃ (drop n xs)) e₃ ∙ edc_next r₂ xs (i + 2) (omega arith)
-    ∙ ap (λ (n : ℕ). edc_from r₂ (drop n xs)) e₂ ∙ edc_next r₁ xs (i + 1) (omega arith) ∙ edc_next r xs i (omega arith)
+from-append r [] ys = refl
+from-append r (x ∷ xs) ys = from-append (edc_bits r x 8) xs ys
+
+-- four bytes more
+pub edc_next_word :
+    (r s i : ℕ) (xs : List ℕ) (words : List (List ℕ)) → words ≡ first_chunks 4 (length xs / 4) xs → i < length xs / 4 → s ≡ edc_from r (get_or words i [])
+    → edc_from s (drop ((i + 1) * 4) xs) ≡ edc_from r (drop (i * 4) xs)
+edc_next_word r s i xs words e h f =
+    let rest = drop (i * 4) xs in
+    let next : i * 4 + 4 ≡ (i + 1) * 4 = omega arith in
+    let word : get_or words i [] ≡ take 4 rest = ap (λ (ws : List (List ℕ)). get_or ws i []) e ∙ chunk_at 4 (length xs / 4) i xs [] h in
+    let after : drop ((i + 1) * 4) xs ≡ drop 4 rest = sym (drop-drop 4 (i * 4) xs ∙ ap (λ (m : ℕ). drop m xs) next) in
+    ap₂ edc_from (f ∙ ap (edc_from r) word) after ∙ sym (from-append r (take 4 rest) (drop 4 rest)) ∙ ap (edc_from r) (take-append-drop 4 rest)
 
 pub edc_end : (r : ℕ) (xs : List ℕ) (i : ℕ) → length xs ≤ i → edc_from r (drop i xs) ≡ r
 unfolding edc_from

@@ -1,74 +1,54 @@
-// EDC (ECMA-268, 16.4), four bytes at a time. The table of what each byte leaves is lent, so that no step makes it anew.
+// EDC (ECMA-268, 16.4), four bytes at a time, by a table that is made once and lent.
 #![tactic(auto)]
 
-ghost use Rattle.std.specs.Prelude.{[], ◌∷◌, ◌≡◌, ◌%◌, ◌<◌, length};
-ghost use Rattle.field.specs.Field.{add};
-ghost use Rattle.edc.specs.Edc.{edc_from, four_bytes, edc_of};
+ghost use Rattle.std.specs.Prelude.{◌≡◌, ◌%◌, length};
+ghost use Rattle.edc.specs.Edc.{edc_from, edc_of};
 ghost use Rattle.edc.specs.Inner.{edc_table};
 
-use octets::{low_byte, wide};
-
-pub fn edc_table() -> [u32; 1024]
-    ensures { result ≡ edc_table }
-{
-    TABLE
+// What each byte leaves of the division.
+#[derive(Clone, Copy)]
+pub struct EdcTable {
+    table: [u32; 1024],
+    ghost sound: { table ≡ edc_table },
 }
 
-// Where the table has what a byte x leaves in a place of the remainder that holds r.
-fn index(r: u32, x: u8) -> usize
-    requires { r < 256 }
-    ensures value { result ≡ add r x }
-    ensures upper_bound { result < 256 }
-{
-    (r ^ wide(x)) as usize
-}
-
-// Four bytes more: each is added to its byte of the remainder, and what the four sums leave is the new one.
-fn edc_four(table: &[u32; 1024], r: u32, a: u8, b: u8, c: u8, d: u8) -> u32
-    requires { table.now ≡ edc_table }
-    ensures { result ≡ edc_from r (a ∷ b ∷ c ∷ d ∷ []) }
-{
-    let h = 768 + index(r / 16777216, a);
-    let i = 512 + index(r / 65536 % 256, b);
-    let j = 256 + index(r / 256 % 256, c);
-    let k = index(r % 256, d);
-    table[h] ^ table[i] ^ table[j] ^ table[k]
-}
-
-// The remainder after some bytes, four at a time.
-fn edc_number(table: &[u32; 1024], xs: &[u8]) -> u32
-    requires table_value { table.now ≡ edc_table }
-    requires xs_len { length xs.now % 4 ≡ 0 }
-    ensures { result ≡ edc_from 0 xs.now }
-{
-    let mut s: u32 = 0;
-    let mut i: usize = 0;
-    while i < xs.len() {
-        s = edc_four(table, s, xs[i], xs[i + 1], xs[i + 2], xs[i + 3]);
-        i += 4;
+impl EdcTable {
+    pub fn new() -> EdcTable {
+        EdcTable { table: TABLE }
     }
-    s
-}
 
-// A remainder as bytes, the most significant first.
-fn four_bytes(r: u32) -> [u8; 4]
-    ensures { result ≡ four_bytes r }
-{
-    [
-        low_byte(r / 16777216),
-        low_byte(r / 65536),
-        low_byte(r / 256),
-        low_byte(r),
-    ]
-}
+    // EDC of the bytes before it.
+    pub fn edc(&self, xs: &[u8]) -> [u8; 4]
+        requires { length xs.now % 4 ≡ 0 }
+        ensures { result ≡ edc_of xs.now }
+    {
+        self.remainder(xs).to_be_bytes()
+    }
 
-// EDC of the bytes before it.
-pub fn edc(table: &[u32; 1024], xs: &[u8]) -> [u8; 4]
-    requires table_value { table.now ≡ edc_table }
-    requires xs_len { length xs.now % 4 ≡ 0 }
-    ensures { result ≡ edc_of xs.now }
-{
-    four_bytes(edc_number(table, xs))
+    // The remainder after some bytes, four at a time.
+    fn remainder(&self, xs: &[u8]) -> u32
+        requires { length xs.now % 4 ≡ 0 }
+        ensures { result ≡ edc_from 0 xs.now }
+    {
+        let (words, _) = xs.as_chunks::<4>();
+        let mut r: u32 = 0;
+        for word in words {
+            r = self.after(r, word);
+        }
+        r
+    }
+
+    // Four bytes more: each is added to its byte of the remainder, and what the four sums leave is the new one.
+    fn after(&self, r: u32, word: &[u8; 4]) -> u32
+        ensures { result ≡ edc_from r word.now }
+    {
+        let [a, b, c, d] = *word;
+        let [h, i, j, k] = r.to_be_bytes();
+        self.table[768 + usize::from(h ^ a)]
+            ^ self.table[512 + usize::from(i ^ b)]
+            ^ self.table[256 + usize::from(j ^ c)]
+            ^ self.table[usize::from(k ^ d)]
+    }
 }
 
 // Entry 256 k + h is what the byte h and k bytes ZERO after it leave from the remainder 0. The one entry in decimal is that of the byte 1: x^31 + x^4 + 1.
