@@ -3,7 +3,7 @@
 use mathlib.Core.Path.{◌≡◌, refl, sym, ap, ap₂, ◌∙◌}
 use mathlib.Core.List.{List, [], ◌∷◌, ◌++◌, map}
 use mathlib.Core.Logic.{dite}
-use Prim.Native.Nat.{ℕ, zero, suc, ◌+◌, ◌*◌, ◌-◌, ◌/◌, ◌%◌, ◌<◌, ◌≤◌}
+use Prim.Native.Nat.{ℕ, zero, suc, ◌+◌, ◌*◌, ◌-◌, ◌/◌, ◌%◌, ◌^◌, ◌<◌, ◌≤◌}
 use native.Mathlib.Numerals.{add-one}
 use native.Mathlib.Omega.{arith}
 use native.Mathlib.Decide.{ℕ_discrete}
@@ -19,7 +19,8 @@ use Rattle.codes.proofs.Division.{remainder-bytes}
 use Rattle.codes.proofs.Shift.{shift_at, shift_is, shift_size, map_at}
 use Rattle.multiples.specs.Inner.{top, bytes_as_number, high, low, multiples}
 use Rattle.division.specs.Inner.{Packed}
-use Rattle.multiples.proofs.Numbers.{number_same, number-add, first_byte, moved}
+use Rattle.division.specs.declared.register.Remainder.{Remainder}
+use Rattle.multiples.proofs.Numbers.{number_same, number-add, number_lt, first_byte, moved as bytes_moved}
 use Rattle.multiples.proofs.Entries.{multiples-high, multiples-low}
 
 -- past the end too
@@ -59,7 +60,7 @@ module _ (g x : List ℕ) (b : ℕ) (same : length g ≡ length x) (bytes : Byte
       number_same (λ i. get_or (shift_in g x b) i 0) (λ i. add (at (i + 1)) (mul h (get_or g i 0))) k k 8 (λ i l. shift_place g x b (k + i) same)
       ∙ number-add (λ i. at (i + 1)) (λ i. small (i + 1)) (λ i. mul h (get_or g i 0)) (λ i. mul-lt h (get_or g i 0)) k 8
       ∙ ap₂ add
-      (number_same (λ i. at (i + 1)) at k (k + 1) 8 (λ i l. ap at (omega arith)) ∙ sym (moved at small k))
+      (number_same (λ i. at (i + 1)) at k (k + 1) 8 (λ i l. ap at (omega arith)) ∙ sym (bytes_moved at small k))
       (number_same (λ i. mul h (get_or g i 0)) (λ i. get_or (map (mul h) g) i 0) k k 8 (λ i l. sym (map-place h g (k + i))))
 
   pub next_high : high (shift_in g x b) ≡ add (high x % top * 256 + low x / top) (high (map (mul (add b (high x / top))) g))
@@ -74,6 +75,10 @@ module _ (g x : List ℕ) (b : ℕ) (same : length g ≡ length x) (bytes : Byte
       next 8
       ∙ ap₂ (λ (u v : ℕ). add u (bytes_as_number (λ i. get_or (map (mul (add b v)) g) i 0) 8 8))
       (ap (λ (u : ℕ). bytes_as_number at 8 8 % top * 256 + u) (get_or-eq_default x 0 l) ∙ omega arith) (sym (first_byte at small 0))
+
+high_lt : (x : List ℕ) → Bytes x → high x < 256 ^ 8
+unfolding high
+high_lt x w = number_lt (λ i. get_or x i 0) (λ i. get_or-byte x i w) 0 8
 
 -- ---- the generator
 
@@ -97,34 +102,33 @@ pub shift_bytes : (g x : List ℕ) (b : ℕ) → Bytes x → Bytes (shift_in g x
 unfolding remainder
 shift_bytes g x b h = remainder-bytes g (b ∷ []) x h
 
--- a register moved up by one place fits a number of 64 bits
-pub room : (h l : ℕ) → l < 18446744073709551616 → h % top * 256 + l / top < 18446744073709551616
-room h l k = go (h % top) (l / top) (omega arith) (omega arith)
-  where
-    go : (a b : ℕ) → a < top → b < 256 → a * 256 + b < 18446744073709551616
-    go a b la lb = omega arith
-
-pub byte_index : (b h : ℕ) → b < 256 → h < 18446744073709551616 → add b (h / top) < 256
-byte_index b h l m = add-lt l (omega arith)
-
-pub packed_next : (p b h l : ℕ) (x m : List ℕ) → p ≤ 16 → m ≡ multiples p → add b (h / top) < 256 → Packed p x h l
-    → Packed p (shift_in (generator_tail p) x b)
-    (add (h % top * 256 + l / top) (get_or m (2 * add b (h / top)) 0))
-    (add (l % top * 256) (get_or m (2 * add b (h / top) + 1) 0))
-packed_next p b h l x m le e i w =
+pub packed_next : (p b : ℕ) (x m : List ℕ) (r : Remainder) → p ≤ 16 → m ≡ multiples p → b < 256 → Packed p x r
+    → Packed p (shift_in (generator_tail p) x b) (record {
+      high = add (r.high % top * 256 + r.low / top) (get_or m (2 * add b (r.high / top)) 0);
+      low = add (r.low % top * 256) (get_or m (2 * add b (r.high / top) + 1) 0);
+    })
+packed_next p b x m r le e small w =
     let g : List ℕ = generator_tail p in
     let s : length g ≡ length x = tail_length p ∙ sym w.size in
+    let i : add b (high x / top) < 256 = add-lt small (omega (arith, high_lt x w.bytes)) in
     record {
       size = shift_size g x b s ∙ w.size;
       bytes = shift_bytes g x b w.bytes;
-      first = ap₂ (λ (u v : ℕ). add u v)
-          (ap₂ (λ (u v : ℕ). u % top * 256 + v / top) w.first w.second)
-          (ap (λ (t : List ℕ). get_or t (2 * add b (h / top)) 0) e ∙ multiples-high p (add b (h / top)) i
-          ∙ ap (λ (u : ℕ). high (map (mul (add b (u / top))) g)) w.first)
-          ∙ sym (next_high g x b s w.bytes);
-      second = ap₂ (λ (u v : ℕ). add u v)
-          (ap (λ (u : ℕ). u % top * 256) w.second)
-          (ap (λ (t : List ℕ). get_or t (2 * add b (h / top) + 1) 0) e ∙ multiples-low p (add b (h / top)) i
-          ∙ ap (λ (u : ℕ). low (map (mul (add b (u / top))) g)) w.first)
-          ∙ sym (next_low g x b s w.bytes (omega (arith, w.size)));
+      numbers =
+          ap (λ (q : Remainder). moved m b q) w.numbers
+          ∙ ap₂ (λ (h l : ℕ). pair h l)
+          (ap (λ (u : ℕ). add (high x % top * 256 + low x / top) u)
+          (ap (λ (t : List ℕ). get_or t (2 * add b (high x / top)) 0) e ∙ multiples-high p (add b (high x / top)) i) ∙ sym (next_high g x b s w.bytes))
+          (ap (λ (u : ℕ). add (low x % top * 256) u)
+          (ap (λ (t : List ℕ). get_or t (2 * add b (high x / top) + 1) 0) e ∙ multiples-low p (add b (high x / top)) i)
+          ∙ sym (next_low g x b s w.bytes (omega (arith, w.size))));
+    }
+  where
+    pair : ℕ → ℕ → Remainder
+    pair h l = record { high = h; low = l }
+
+    moved : List ℕ → ℕ → Remainder → Remainder
+    moved m b r = record {
+      high = add (r.high % top * 256 + r.low / top) (get_or m (2 * add b (r.high / top)) 0);
+      low = add (r.low % top * 256) (get_or m (2 * add b (r.high / top) + 1) 0);
     }

@@ -15,7 +15,8 @@ use Rattle.lists.specs.Fill.{tabulate}
 use Rattle.lists.proofs.Bytes.{get_or-byte, append-bytes, tabulate-bytes}
 use Rattle.lists.proofs.Fill.{length-tabulate, get_d_tabulate}
 use Rattle.multiples.specs.Inner.{bytes_as_number, high, low}
-use Rattle.division.specs.Inner.{Packed, number_byte, unpacked}
+use Rattle.division.specs.Inner.{packed, Packed, number_byte, unpacked}
+use Rattle.division.specs.declared.register.Remainder.{Remainder}
 use Rattle.multiples.proofs.Numbers.{number_lt, number_same}
 
 number_split : (f : ℕ → ℕ) (k c b : ℕ) → bytes_as_number f k (c + b) ≡ bytes_as_number f k c * 256 ^ b + bytes_as_number f (k + c) b
@@ -36,15 +37,16 @@ byte_at f small k i l =
     ∙ ap (λ (x : ℕ). x % 256) (digits_div (bytes_as_number f k (suc i)) (number_lt f small (k + suc i) (7 - i)))
     ∙ digits_mod (bytes_as_number f k i) (small (k + i))
 
-unpacked-length : (h l : ℕ) → length (unpacked h l) ≡ 16
+pub unpacked-length : (r : Remainder) → length (unpacked r) ≡ 16
 unfolding unpacked
-unpacked-length h l = length-append (tabulate (number_byte h) 8) (tabulate (number_byte l) 8) ∙ ap₂ (λ (a b : ℕ). a + b) (length-tabulate (number_byte h) 8) (length-tabulate (number_byte l) 8)
+unpacked-length r =
+    length-append (tabulate (number_byte r.high) 8) (tabulate (number_byte r.low) 8) ∙ ap₂ (λ (a b : ℕ). a + b) (length-tabulate (number_byte r.high) 8) (length-tabulate (number_byte r.low) 8)
 
-pub unpacked-take : (h l : ℕ) → unpacked h l ≡ take 16 (unpacked h l)
-unpacked-take h l = sym (take_all 16 (unpacked h l) (omega (arith, unpacked-length h l)))
+pub unpacked-take : (r : Remainder) → unpacked r ≡ take 16 (unpacked r)
+unpacked-take r = sym (take_all 16 (unpacked r) (omega (arith, unpacked-length r)))
 
 -- place i of a register
-pub unpacked-at : (x : List ℕ) → Bytes x → (i : ℕ) → i < 16 → get_or (unpacked (high x) (low x)) i 0 ≡ get_or x i 0
+pub unpacked-at : (x : List ℕ) → Bytes x → (i : ℕ) → i < 16 → get_or (unpacked (packed x)) i 0 ≡ get_or x i 0
 unfolding unpacked high low
 unpacked-at x b i l = dite (ℕ_discrete (1 - (8 - i)) 0)
     (λ q.
@@ -54,19 +56,19 @@ unpacked-at x b i l = dite (ℕ_discrete (1 - (8 - i)) 0)
     (λ q.
     let e : i ≡ 8 + (i - 8) = omega (arith, q) in
     let m : i - 8 < 8 = omega (arith, q) in
-    ap (λ (j : ℕ). get_or (unpacked (high x) (low x)) j 0) (e ∙ ap (λ (j : ℕ). j + (i - 8)) (sym (length-tabulate (number_byte (high x)) 8)))
+    ap (λ (j : ℕ). get_or (unpacked (packed x)) j 0) (e ∙ ap (λ (j : ℕ). j + (i - 8)) (sym (length-tabulate (number_byte (high x)) 8)))
     ∙ get_or-append-add (tabulate (number_byte (high x)) 8) (tabulate (number_byte (low x)) 8) (i - 8) 0
     ∙ get_d_tabulate (number_byte (low x)) 8 (i - 8) m ∙ byte_at (λ j. get_or x j 0) (λ j. get_or-byte x j b) 8 (i - 8) m ∙ ap (λ (j : ℕ). get_or x j 0) (sym e))
 
 -- the p bytes of a register
-pub unpacked-register : (p : ℕ) (x : List ℕ) → Bytes x → length x ≡ p → p ≤ 16 → take p (unpacked (high x) (low x)) ≡ x
+pub unpacked-register : (p : ℕ) (x : List ℕ) → Bytes x → length x ≡ p → p ≤ 16 → take p (unpacked (packed x)) ≡ x
 unpacked-register p x b e l =
-    let n : length (take p (unpacked (high x) (low x))) ≡ p = length-take-le p (unpacked (high x) (low x)) (omega (arith, unpacked-length (high x) (low x))) in
-    ext_get_or 0 (take p (unpacked (high x) (low x))) x (n ∙ sym e)
-    (λ i m. let k : i < p = omega (arith, n) in get_or-take p (unpacked (high x) (low x)) i 0 k ∙ unpacked-at x b i (omega arith))
+    let n : length (take p (unpacked (packed x))) ≡ p = length-take-le p (unpacked (packed x)) (omega (arith, unpacked-length (packed x))) in
+    ext_get_or 0 (take p (unpacked (packed x))) x (n ∙ sym e)
+    (λ i m. let k : i < p = omega (arith, n) in get_or-take p (unpacked (packed x)) i 0 k ∙ unpacked-at x b i (omega arith))
 
-pub unpacked-whole : (x : List ℕ) → Bytes x → length x ≡ 16 → unpacked (high x) (low x) ≡ x
-unpacked-whole x b e = unpacked-take (high x) (low x) ∙ unpacked-register 16 x b e (omega arith)
+pub unpacked-whole : (x : List ℕ) → Bytes x → length x ≡ 16 → unpacked (packed x) ≡ x
+unpacked-whole x b e = unpacked-take (packed x) ∙ unpacked-register 16 x b e (omega arith)
 
 -- ---- two numbers are a register
 
@@ -90,20 +92,25 @@ byte_small : (x i : ℕ) → number_byte x i < 256
 unfolding number_byte
 byte_small x i = omega arith
 
-pub packed-unpacked : (h l : ℕ) → h < 18446744073709551616 → l < 18446744073709551616 → Packed 16 (unpacked h l) h l
+pub packed-unpacked : (r : Remainder) → r.high < 18446744073709551616 → r.low < 18446744073709551616 → Packed 16 (unpacked r) r
 unfolding high low unpacked
-packed-unpacked h l hh hl =
+packed-unpacked r hh hl =
+    let h : ℕ = r.high in
+    let l : ℕ = r.low in
     let n : length (tabulate (number_byte h) 8) ≡ 8 = length-tabulate (number_byte h) 8 in
     record {
-      size = unpacked-length h l;
+      size = unpacked-length r;
       bytes = append-bytes (tabulate (number_byte h) 8) (tabulate (number_byte l) 8) (tabulate-bytes (number_byte h) 0 8 (byte_small h)) (tabulate-bytes (number_byte l) 0 8 (byte_small l));
-      first = sym
-          (number_same (λ i. get_or (unpacked h l) i 0) (number_byte h) 0 0 8
+      numbers = sym
+          (ap₂ (λ (a b : ℕ). pair a b)
+          (number_same (λ i. get_or (unpacked r) i 0) (number_byte h) 0 0 8
           (λ i m. get_or-append (tabulate (number_byte h) 8) (tabulate (number_byte l) 8) 0 (0 + i) (omega arith) ∙ get_d_tabulate (number_byte h) 8 (0 + i) (omega arith))
-          ∙ whole h hh);
-      second = sym
-          (number_same (λ i. get_or (unpacked h l) i 0) (number_byte l) 8 0 8
-          (λ i m. ap (λ (k : ℕ). get_or (unpacked h l) (k + i) 0) (sym n) ∙ get_or-append-add (tabulate (number_byte h) 8) (tabulate (number_byte l) 8) i 0
+          ∙ whole h hh)
+          (number_same (λ i. get_or (unpacked r) i 0) (number_byte l) 8 0 8
+          (λ i m. ap (λ (k : ℕ). get_or (unpacked r) (k + i) 0) (sym n) ∙ get_or-append-add (tabulate (number_byte h) 8) (tabulate (number_byte l) 8) i 0
           ∙ get_d_tabulate (number_byte l) 8 i m ∙ ap (number_byte l) (omega arith))
-          ∙ whole l hl);
+          ∙ whole l hl));
     }
+  where
+    pair : ℕ → ℕ → Remainder
+    pair a b = record { high = a; low = b }

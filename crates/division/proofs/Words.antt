@@ -18,7 +18,8 @@ use Rattle.codes.proofs.Words.{add_words-length, add_words-bytes, syndrome-add}
 use Rattle.codes.proofs.Division.{Code, value_from-append, zeros-value_at, parity_code}
 use Rattle.codes.proofs.Shift.{add_at}
 use Rattle.multiples.specs.Inner.{bytes_as_number, high, low}
-use Rattle.division.specs.Inner.{remainder_of}
+use Rattle.division.specs.Inner.{packed, remainder_of}
+use Rattle.division.specs.declared.register.Remainder.{Remainder}
 use Rattle.multiples.proofs.Numbers.{number_same, number-add}
 use Rattle.division.proofs.Division.{parity-size, parity_small}
 
@@ -104,13 +105,14 @@ module _ (p : ℕ) (w : List ℕ) (hw : Bytes w) (le : p ≤ length w) where
   unfolding remainder_of d q
   left-bytes = add_words-bytes (parity p d) q (parity_small p d) q_bytes
 
-  pub left-high : high (remainder_of p w) ≡ add (high (parity p (take (length w - p) w))) (high (drop (length w - p) w))
+  pub left_packed : (r : Remainder) → r.high ≡ add (high (parity p (take (length w - p) w))) (high (drop (length w - p) w))
+      → r.low ≡ add (low (parity p (take (length w - p) w))) (low (drop (length w - p) w)) → r ≡ packed (remainder_of p w)
   unfolding remainder_of d q
-  left-high = sum-high (parity p d) q same (parity_small p d) q_bytes
-
-  pub left-low : low (remainder_of p w) ≡ add (low (parity p (take (length w - p) w))) (low (drop (length w - p) w))
-  unfolding remainder_of d q
-  left-low = sum_low (parity p d) q same (parity_small p d) q_bytes
+  left_packed r eh el =
+      ap₂ pair (eh ∙ sym (sum-high (parity p d) q same (parity_small p d) q_bytes)) (el ∙ sym (sum_low (parity p d) q same (parity_small p d) q_bytes))
+    where
+      pair : ℕ → ℕ → Remainder
+      pair a b = record { high = a; low = b }
 
   module _ (c : Code p) where
     -- every syndrome of the word is that of the remainder

@@ -5,5 +5,5 @@
 mod received;
 mod register;
 
-pub use received::{add_last, is_zero, remainder_of};
+pub use received::remainder_of;
 pub use register::{Remainder, divide, shift_row};

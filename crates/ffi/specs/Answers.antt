@@ -8,9 +8,7 @@
 --   row_repair_number, row_repair_bytes             and of a row with its marks
 --   light_repair_number, light_repair_bytes         the light repair of a row
 -- Assumes nothing.
-use Rattle.std.specs.Prelude.{Bool, true, false, cond, ◌&&◌, List, ℕ, eqb, length}
-use Rattle.eccblock.specs.declared.Previous.{Previous}
-use Rattle.eccblock.specs.declared.Previous.TheVariants.{None, First}
+use Rattle.std.specs.Prelude.{Bool, true, false, cond, ◌&&◌, List, ℕ, eqb, length, Option, None, Some}
 use Rattle.codes.specs.declared.Outcome.{Outcome}
 use Rattle.codes.specs.declared.Outcome.TheVariants.{Clean, Corrected, Uncorrectable}
 use Rattle.codes.specs.declared.LightOutcome.{LightOutcome}
@@ -22,9 +20,9 @@ use Rattle.layout.specs.Lengths.{row_count, row_size, inner_size, outer_size}
 use Rattle.repairer.specs.Answer.{marks_fit}
 
 -- the block before: none, or the one with that first number, which counts only where a block comes before
-abbrev pub previous_of : Bool → ℕ → Previous
+abbrev pub previous_of : Bool → ℕ → Option ℕ
 previous_of false first = None
-previous_of true first = First first
+previous_of true first = Some first
 
 -- a buffer has n bytes
 abbrev pub sized : ℕ → List ℕ → Bool

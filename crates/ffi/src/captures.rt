@@ -5,22 +5,17 @@ ghost use Rattle.capture.specs.Answer.{capture_refusal, capture_answer, capture_
 ghost use Rattle.ffi.specs.Answers.{sized, held_after};
 ghost use Rattle.ffi.specs.Readers.{capture_report_size, capture_report, number_or1};
 
-use capture::CaptureRead;
+use capture::Captured;
+use refusals::{Refusal, answer_number};
 
 // How many numbers the report has.
 const CAPTURE_REPORT: usize = 2;
 
-fn lay_capture(answer: CaptureRead, report: &mut [u64])
-    requires { length report.old ≡ capture_report_size }
+fn lay_capture(answer: Result<Captured, Refusal>, report: &mut [u64; CAPTURE_REPORT])
     ensures { report.new ≡ capture_report answer report.old }
 {
-    match answer {
-        CaptureRead::Captured { frames, stretches } => {
-            report[0] = frames;
-            report[1] = stretches;
-        }
-        CaptureRead::StretchesRefused => {}
-        CaptureRead::LengthRefused => {}
+    if let Ok(captured) = answer {
+        *report = [captured.frames, captured.stretches];
     }
 }
 
@@ -55,10 +50,10 @@ pub extern "C" fn chamanzil_read_capture(
         report.old)
         report.old }
 {
-    if report.len() != CAPTURE_REPORT {
+    let Some(report) = report.as_mut_array::<CAPTURE_REPORT>() else {
         return 1;
-    }
+    };
     let answer = capture::read_capture(stream, out, stretches);
     lay_capture(answer, report);
-    capture::capture_number(answer) as u32
+    u32::from(answer_number(answer))
 }

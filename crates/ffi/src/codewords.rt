@@ -6,6 +6,7 @@ ghost use Rattle.layout.specs.Lengths.{data_rows, column_count, outer_size, inne
 ghost use Rattle.ffi.specs.Answers.{sized, done_or1, held_after, outcome_number, column_repair_number, column_repair_bytes, row_repair_number, row_repair_bytes, light_number, light_repair_number, light_repair_bytes};
 
 use codes::{LightOutcome, Outcome};
+use field::Logs;
 use layout::{COLUMN_COUNT, DATA_ROWS, INNER_SIZE, OUTER_SIZE, ROW_COUNT, ROW_SIZE};
 use lightrepair::LightRow;
 use reedsolomon::{Column, Row};
@@ -14,16 +15,14 @@ use reedsolomon::{Column, Row};
 pub extern "C" fn chamanzil_product(a: u8, b: u8) -> u8
     ensures { result ≡ mul a b }
 {
-    let logs = field::log_table();
-    field::product(&logs, a, b)
+    Logs::new().product(a, b)
 }
 
 #[unsafe(no_mangle)]
 pub extern "C" fn chamanzil_power(a: u8, n: u64) -> u8
     ensures { result ≡ pow a n }
 {
-    let logs = field::log_table();
-    field::power(&logs, a, n)
+    Logs::new().power(a, n)
 }
 
 // What became of a word that was no code word: numbers above every refusal.
@@ -61,15 +60,13 @@ pub extern "C" fn chamanzil_ied(id: &[u8], out: &mut [u8]) -> u32
         ≡ held_after (sized 4 id.now && sized 2 out.old) (parity 2 id.now)
         out.old }
 {
-    if id.len() != 4 {
+    let Some(id) = id.as_array::<4>() else {
         return 1;
-    }
-    if out.len() != 2 {
+    };
+    let Some(out) = out.as_mut_array::<2>() else {
         return 1;
-    }
-    let logs = field::log_table();
-    let parity = reedsolomon::parity2_with(&logs, id);
-    octets::put(out, 0, &parity);
+    };
+    *out = reedsolomon::parity2(id);
     0
 }
 
@@ -81,15 +78,13 @@ pub extern "C" fn chamanzil_row_parity(word: &[u8], out: &mut [u8]) -> u32
         ≡ held_after (sized column_count word.now && sized inner_size out.old)
         (parity inner_size word.now) out.old }
 {
-    if word.len() != COLUMN_COUNT {
+    let Some(word) = word.as_array::<COLUMN_COUNT>() else {
         return 1;
-    }
-    if out.len() != INNER_SIZE {
+    };
+    let Some(out) = out.as_mut_array::<INNER_SIZE>() else {
         return 1;
-    }
-    let table = multiples::multiples10();
-    let parity = reedsolomon::parity10_with(&table, word);
-    octets::put(out, 0, &parity);
+    };
+    *out = reedsolomon::parity10(word);
     0
 }
 
@@ -101,15 +96,13 @@ pub extern "C" fn chamanzil_column_parity(word: &[u8], out: &mut [u8]) -> u32
         ≡ held_after (sized data_rows word.now && sized outer_size out.old)
         (parity outer_size word.now) out.old }
 {
-    if word.len() != DATA_ROWS {
+    let Some(word) = word.as_array::<DATA_ROWS>() else {
         return 1;
-    }
-    if out.len() != OUTER_SIZE {
+    };
+    let Some(out) = out.as_mut_array::<OUTER_SIZE>() else {
         return 1;
-    }
-    let table = multiples::multiples16();
-    let parity = reedsolomon::parity16_with(&table, word);
-    octets::put(out, 0, &parity);
+    };
+    *out = reedsolomon::parity16(word);
     0
 }
 
@@ -119,30 +112,22 @@ pub extern "C" fn chamanzil_correct_row(row: &mut [u8], erasures: &[u8]) -> u32
     ensures value { result ≡ row_repair_number row.old erasures.now }
     ensures row_after { row.new ≡ row_repair_bytes row.old erasures.now }
 {
-    if row.len() != ROW_SIZE {
+    let Some(erasures) = erasures.as_array::<ROW_SIZE>() else {
         return 1;
-    }
-    if erasures.len() != ROW_SIZE {
+    };
+    let Some(row) = row.as_mut_array::<ROW_SIZE>() else {
         return 1;
-    }
+    };
     if !repairer::marks_fit(erasures) {
         return 11;
     }
-    let mut bytes = [0u8; ROW_SIZE];
-    octets::put(&mut bytes, 0, row);
-    let mut marks = [0u8; ROW_SIZE];
-    octets::put(&mut marks, 0, erasures);
-    let repaired = reedsolomon::correct_row(
-        &marks,
-        Row {
-            bytes,
-            outcome: Outcome::Clean,
-        },
-    );
-    let near = repaired.bytes;
-    octets::put(row, 0, &near);
-    let outcome = repaired.outcome;
-    outcome_number(outcome)
+    let given = Row {
+        bytes: *row,
+        outcome: Outcome::Clean,
+    };
+    let repaired = reedsolomon::correct_row(erasures, given);
+    *row = repaired.bytes;
+    outcome_number(repaired.outcome)
 }
 
 // The repair of a column of 208 bytes, in place.
@@ -151,19 +136,16 @@ pub extern "C" fn chamanzil_correct_column(column: &mut [u8]) -> u32
     ensures value { result ≡ column_repair_number column.old }
     ensures column_after { column.new ≡ column_repair_bytes column.old }
 {
-    if column.len() != ROW_COUNT {
+    let Some(column) = column.as_mut_array::<ROW_COUNT>() else {
         return 1;
-    }
-    let mut bytes = [0u8; ROW_COUNT];
-    octets::put(&mut bytes, 0, column);
-    let repaired = reedsolomon::correct_column(Column {
-        bytes,
+    };
+    let given = Column {
+        bytes: *column,
         outcome: Outcome::Clean,
-    });
-    let near = repaired.bytes;
-    octets::put(column, 0, &near);
-    let outcome = repaired.outcome;
-    outcome_number(outcome)
+    };
+    let repaired = reedsolomon::correct_column(given);
+    *column = repaired.bytes;
+    outcome_number(repaired.outcome)
 }
 
 // The light repair of a row of 182 bytes without marks, in place.
@@ -172,17 +154,14 @@ pub extern "C" fn chamanzil_correct_light_row(row: &mut [u8]) -> u32
     ensures value { result ≡ light_repair_number row.old }
     ensures row_after { row.new ≡ light_repair_bytes row.old }
 {
-    if row.len() != ROW_SIZE {
+    let Some(row) = row.as_mut_array::<ROW_SIZE>() else {
         return 1;
-    }
-    let mut bytes = [0u8; ROW_SIZE];
-    octets::put(&mut bytes, 0, row);
-    let repaired = lightrepair::correct_light_row(LightRow {
-        bytes,
+    };
+    let given = LightRow {
+        bytes: *row,
         outcome: LightOutcome::Heavier,
-    });
-    let right = repaired.bytes;
-    octets::put(row, 0, &right);
-    let outcome = repaired.outcome;
-    light_number(outcome)
+    };
+    let repaired = lightrepair::correct_light_row(given);
+    *row = repaired.bytes;
+    light_number(repaired.outcome)
 }

@@ -10,8 +10,9 @@ ghost use Rattle.ffi.specs.Answers.{sized, held_after};
 ghost use Rattle.ffi.specs.Readers.{sector_report_size, repair_report_size, block_report_size, sector_report, repair_report, block_report, number_or1};
 
 use blockreader::BlockRead;
-use reader::SectorRead;
-use repairer::Repaired;
+use reader::SectorTally;
+use refusals::{Refusal, answer_number};
+use repairer::{BlockRefusal, Repair, Tallies};
 
 // How many numbers a report has.
 const SECTOR_REPORT: usize = 2;
@@ -20,77 +21,58 @@ const REPAIR_REPORT: usize = 6;
 
 const BLOCK_REPORT: usize = 8;
 
-fn lay_sector(answer: SectorRead, report: &mut [u32])
-    requires { length report.old ≡ sector_report_size }
+fn lay_sector(answer: Result<SectorTally, Refusal>, report: &mut [u32; SECTOR_REPORT])
     ensures { report.new ≡ sector_report answer report.old }
 {
-    match answer {
-        SectorRead::Sector { unknown, sync } => {
-            report[0] = unknown;
-            report[1] = sync;
-        }
-        SectorRead::LengthRefused => {}
+    if let Ok(tally) = answer {
+        *report = [tally.unknown, tally.sync];
     }
 }
 
-fn lay_repair(answer: Repaired, report: &mut [u32])
-    requires { length report.old ≡ repair_report_size }
+// The tallies where the block is handed out, else the frame that fails, at the end; a refusal of the whole block leaves the report.
+fn lay_repair(answer: Result<Repair, BlockRefusal>, report: &mut [u32; REPAIR_REPORT])
     ensures { report.new ≡ repair_report answer report.old }
 {
     match answer {
-        Repaired::Block { first, tallies } => {
-            report[0] = first;
-            report[1] = tallies.rows.corrected;
-            report[2] = tallies.rows.uncorrectable;
-            report[3] = tallies.columns.corrected;
-            report[4] = tallies.columns.uncorrectable;
-            report[5] = 0;
+        Ok(Repair { first, tallies }) => {
+            let Tallies { rows, columns } = tallies;
+            *report = [
+                first,
+                rows.corrected,
+                rows.uncorrectable,
+                columns.corrected,
+                columns.uncorrectable,
+                0,
+            ];
         }
-        Repaired::FrameRefused { number: _, frame } => {
-            report[0] = 0;
-            report[1] = 0;
-            report[2] = 0;
-            report[3] = 0;
-            report[4] = 0;
-            report[5] = frame as u32;
-        }
-        Repaired::ErasureRefused => {}
-        Repaired::LengthRefused => {}
+        Err(BlockRefusal {
+            frame: Some(frame), ..
+        }) => *report = [0, 0, 0, 0, 0, u32::from(frame)],
+        Err(_) => {}
     }
 }
 
-fn lay_block(answer: BlockRead, report: &mut [u32])
-    requires { length report.old ≡ block_report_size }
+fn lay_block(answer: Result<BlockRead, BlockRefusal>, report: &mut [u32; BLOCK_REPORT])
     ensures { report.new ≡ block_report answer report.old }
 {
     match answer {
-        BlockRead::Block {
-            first,
-            tallies,
-            unknown,
-            sync,
-        } => {
-            report[0] = first;
-            report[1] = tallies.rows.corrected;
-            report[2] = tallies.rows.uncorrectable;
-            report[3] = tallies.columns.corrected;
-            report[4] = tallies.columns.uncorrectable;
-            report[5] = unknown;
-            report[6] = sync;
-            report[7] = 0;
+        Ok(read) => {
+            let Tallies { rows, columns } = read.tallies;
+            *report = [
+                read.first,
+                rows.corrected,
+                rows.uncorrectable,
+                columns.corrected,
+                columns.uncorrectable,
+                read.unknown,
+                read.sync,
+                0,
+            ];
         }
-        BlockRead::FrameRefused { number: _, frame } => {
-            report[0] = 0;
-            report[1] = 0;
-            report[2] = 0;
-            report[3] = 0;
-            report[4] = 0;
-            report[5] = 0;
-            report[6] = 0;
-            report[7] = frame as u32;
-        }
-        BlockRead::ErasureRefused => {}
-        BlockRead::LengthRefused => {}
+        Err(BlockRefusal {
+            frame: Some(frame), ..
+        }) => *report = [0, 0, 0, 0, 0, 0, 0, u32::from(frame)],
+        Err(_) => {}
     }
 }
 
@@ -122,12 +104,12 @@ pub extern "C" fn chamanzil_read_sector(
         report.old)
         report.old }
 {
-    if report.len() != SECTOR_REPORT {
+    let Some(report) = report.as_mut_array::<SECTOR_REPORT>() else {
         return 1;
-    }
+    };
     let answer = reader::read_sector(stream, out, erasures);
     lay_sector(answer, report);
-    reader::sector_read_number(answer) as u32
+    u32::from(answer_number(answer))
 }
 
 // Two readings of one block, 37,856 bytes and as many marks each, pooled: the result replaces the first, `bytes` and `erasures`; the second, `second` and `marks`,
@@ -149,8 +131,7 @@ pub extern "C" fn chamanzil_pool(
         ≡ (pool_after (with_marks bytes.old erasures.old)
         (with_marks second.now marks.now)).erasures }
 {
-    let answer = pooling::pool(bytes, erasures, second, marks);
-    pooling::pool_number(answer) as u32
+    u32::from(answer_number(pooling::pool(bytes, erasures, second, marks)))
 }
 
 // A block of 37,856 bytes, repaired in place by its marks, to 32,768 main data bytes; 0, or refusal 1, 11, 4, 5 or 6. The report has the first number, the rows
@@ -179,12 +160,12 @@ pub extern "C" fn chamanzil_repair_block(
         report.old)
         report.old }
 {
-    if report.len() != REPAIR_REPORT {
+    let Some(report) = report.as_mut_array::<REPAIR_REPORT>() else {
         return 1;
-    }
+    };
     let answer = repairer::repair_block(block, erasures, main);
     lay_repair(answer, report);
-    repairer::repair_number(answer) as u32
+    u32::from(repairer::repair_number(answer))
 }
 
 // 77,380 bytes of stream to a block of 37,856, as the repairer leaves it, as many marks, and 32,768 main data bytes; 0, or refusal 1, 4, 5 or 6. The report is the
@@ -224,10 +205,10 @@ pub extern "C" fn chamanzil_read_block(
         report.old)
         report.old }
 {
-    if report.len() != BLOCK_REPORT {
+    let Some(report) = report.as_mut_array::<BLOCK_REPORT>() else {
         return 1;
-    }
+    };
     let answer = blockreader::read_block(stream, block, erasures, main);
     lay_block(answer, report);
-    blockreader::block_read_number(answer) as u32
+    u32::from(repairer::repair_number(answer))
 }

@@ -6,6 +6,7 @@ ghost use Rattle.writer.specs.Answers.{sectors_refusal, sectors_next, sectors_ou
 ghost use Rattle.formatter.specs.Formatter.{write_block_refusal, write_block_next, write_block_out};
 ghost use Rattle.ffi.specs.Answers.{previous_of};
 
+use refusals::answer_number;
 use writer::Record;
 
 // A new record, whatever the old one was.
@@ -25,8 +26,7 @@ pub extern "C" fn chamanzil_trial(kept: &mut Record, bytes: &[u8], out: &[u8]) -
     ensures kept_after { kept.new
         ≡ trial_next kept.old bytes.now (length out.now) }
 {
-    let answer = console::trial(kept, bytes, out);
-    console::answer_number(answer)
+    u32::from(answer_number(console::trial(kept, bytes, out)))
 }
 
 // The sector that was tried, laid as 4,836 bytes; 0, or refusal 1, 9, 7, 12 or 13. The mark is dropped.
@@ -38,8 +38,7 @@ pub extern "C" fn chamanzil_take(kept: &mut Record, bytes: &[u8], out: &mut [u8]
         ≡ take_next kept.old bytes.now (length out.old) }
     ensures out_after { out.new ≡ take_out kept.old bytes.now out.old }
 {
-    let answer = console::take(kept, bytes, out);
-    console::answer_number(answer)
+    u32::from(answer_number(console::take(kept, bytes, out)))
 }
 
 // The sixteen sectors of a block of 37,856 bytes, laid as 77,376; 0, or refusal 1, 9 or 7. A mark is dropped.
@@ -51,8 +50,7 @@ pub extern "C" fn chamanzil_write_sectors(kept: &mut Record, block: &[u8], out: 
         ≡ sectors_next kept.old block.now (length out.old) }
     ensures out_after { out.new ≡ sectors_out kept.old block.now out.old }
 {
-    let answer = console::write_sectors(kept, block, out);
-    console::answer_number(answer)
+    u32::from(answer_number(console::write_sectors(kept, block, out)))
 }
 
 // A whole block of the run: 32,768 main data bytes, laid as 77,376; 0, or refusal 1, 2, 3, 10, 9 or 7. `follows` says whether a block comes before, and `previous`
@@ -78,8 +76,7 @@ pub extern "C" fn chamanzil_write_block(
         main.now first info out.old }
 {
     let before = crate::blocks::previous_of(follows, previous);
-    let answer = console::write_block(kept, before, main, first, info, out);
-    formatter::formatted_number(answer)
+    u32::from(answer_number(console::write_block(kept, before, main, first, info, out)))
 }
 
 // The closing code, 4 bytes; 0, or refusal 1, 9, 7 or 8. A mark is dropped.
@@ -89,6 +86,5 @@ pub extern "C" fn chamanzil_close(kept: &mut Record, out: &mut [u8]) -> u32
     ensures kept_after { kept.new ≡ closing_next kept.old (length out.old) }
     ensures out_after { out.new ≡ closing_out kept.old out.old }
 {
-    let answer = console::close(kept, out);
-    console::answer_number(answer)
+    u32::from(answer_number(console::close(kept, out)))
 }

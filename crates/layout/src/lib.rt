@@ -83,24 +83,27 @@ pub const RUN_SECTORS: u32 = 16777216;
 
 pub const LONGEST_CAPTURE: usize = 1099511627776;
 
-// The SYNC Codes of the 13 rows of a sector, two frames a row.
-const FRAME_CODES: [u8; SECTOR_FRAMES] = [
-    0, 5, 1, 5, 2, 5, 3, 5, 4, 5, 1, 6, 2, 6, 3, 6, 4, 6, 1, 7, 2, 7, 3, 7, 4, 7,
-];
-
-// The table of them, to be lent.
-pub fn frame_codes() -> [u8; SECTOR_FRAMES]
-    ensures { result ≡ frame_codes }
-{
-    FRAME_CODES
+// The SYNC Codes of the 13 rows of a sector, two frames a row, made once and lent.
+#[derive(Clone, Copy)]
+pub struct FrameCodes {
+    codes: [u8; SECTOR_FRAMES],
+    ghost sound: { codes ≡ frame_codes },
 }
 
-// The number of the SYNC Code of frame f, where 26 frames are a sector.
-pub fn code_of(codes: &[u8; SECTOR_FRAMES], f: usize) -> u8
-    requires { codes.now ≡ frame_codes }
-    ensures value { result ≡ code_of f }
-    ensures upper_bound { result < 8 }
-{
-    let at = f % SECTOR_FRAMES;
-    codes[at]
+impl FrameCodes {
+    pub fn new() -> FrameCodes {
+        FrameCodes {
+            codes: [
+                0, 5, 1, 5, 2, 5, 3, 5, 4, 5, 1, 6, 2, 6, 3, 6, 4, 6, 1, 7, 2, 7, 3, 7, 4, 7,
+            ],
+        }
+    }
+
+    // The number of the SYNC Code of frame f, where 26 frames are a sector.
+    pub fn of(&self, f: usize) -> u8
+        ensures value { result ≡ code_of f }
+        ensures upper_bound { result < 8 }
+    {
+        self.codes[f % SECTOR_FRAMES]
+    }
 }

@@ -1,16 +1,16 @@
--- What the formulas find explains the sums, whichever of them found it; where one finds nothing, what it says then holds (found_weaker, found_told, found_more). What
--- explains none of a row's sums (none_explains, no_one, no_two, heavier).
+-- What explains none of a row's sums (none_explains, no_one, no_two, heavier), and how many wrong bytes are told (two_at_most).
 -- Assumes nothing.
-use mathlib.Core.Path.{◌≡◌, refl, sym, ◌∙◌}
+use mathlib.Core.Path.{◌≡◌, sym, ◌∙◌}
 use mathlib.Core.Bool.{true, false, false≢true}
 use mathlib.Core.List.{List, [], ◌∷◌}
-use Prim.Native.Nat.{ℕ, zero, suc, ◌<◌}
+use Prim.Native.Nat.{ℕ, zero, suc, ◌<◌, ◌≤◌}
 use native.Mathlib.Omega.{arith}
 use borrow.Author.Tests.{eq-eqb}
 use lib.Dec.{eqb, eqb→eq}
 use lib.ListN.{length, get_or}
 use mir.Val.{Fits}
 use mir.Syntax.{w8}
+use Rattle.std.specs.Prelude.{Option, Some, None, MatchOption}
 use Rattle.lists.proofs.Bytes.{bytes_of, get_or-byte}
 use Rattle.lists.proofs.Test.{truth, truth_of, below_at, below_all}
 use Rattle.codes.specs.Word.{all_zero}
@@ -18,30 +18,19 @@ use Rattle.codes.specs.Inner.{at, sum_of, Inside, Explains, Unexplained}
 use Rattle.codes.specs.declared.WrongByte.{WrongByte}
 use Rattle.codes.proofs.Formulas.{OneWrong, TwoWrong, unexplained_one, unexplained_two}
 use Rattle.layout.specs.Lengths.{row_size, inner_size}
-use Rattle.lightrepair.specs.Inner.{Found, Heavier}
+use Rattle.lightrepair.specs.Inner.{wrong_bytes, Heavier}
 use Rattle.lightrepair.specs.declared.formulas.Errors.{Errors}
-use Rattle.lightrepair.specs.declared.formulas.Errors.TheVariants.{None, One, Two, More}
+use Rattle.lightrepair.specs.declared.formulas.Errors.TheVariants.{None as NoError, One, Two}
 
-module _ (S : ℕ → ℕ) (p n : ℕ) (G H : Type 0) where
-  pub found_weaker : (G → H) → (r : Errors) → Found G S p n r → Found H S p n r
-  found_weaker h None f = f
-  found_weaker h (One e) f = f
-  found_weaker h (Two d e) f = f
-  found_weaker h More f = h f
+-- where nothing is told, what that says may be weaker
+pub weaker : {X : Type 0} (G H : Type 0) (P : X → Type 0) → (G → H) → (r : Option X) → MatchOption r G P → MatchOption r H P
+weaker G H P h None f = h f
+weaker G H P h (Some x) f = f
 
-  -- wrong bytes are told
-  pub found_told : (r : Errors) → (r ≡ More → ⊥) → Found G S p n r → Found H S p n r
-  found_told None k f = f
-  found_told (One e) k f = f
-  found_told (Two d e) k f = f
-  found_told More k f = absurd (k refl)
-
--- or more than two are
-pub found_more : (S : ℕ → ℕ) (p n : ℕ) (G : Type 0) (r : Errors) → r ≡ More → Found G S p n r → G
-found_more S p n G None k f = absurd (cc)
-found_more S p n G (One e) k f = absurd (cc)
-found_more S p n G (Two d e) k f = absurd (cc)
-found_more S p n G More k f = f
+pub two_at_most : (e : Errors) → length (wrong_bytes e) ≤ 2
+two_at_most NoError = omega arith
+two_at_most (One e) = omega arith
+two_at_most (Two e f) = omega arith
 
 -- s are p sums of a word of n bytes
 module _ (s : List ℕ) (p n : ℕ) (size : length s ≡ p) where

@@ -1,22 +1,25 @@
 -- Scrambling: the register as the loop steps it, and scrambling twice.
 -- Assumes nothing.
-use mathlib.Core.Path.{◌≡◌, refl, sym, ap, ◌∙◌}
+use mathlib.Core.Path.{◌≡◌, refl, sym, ap, ap₂, ◌∙◌}
 use mathlib.Core.Bool.{Bool, true, false, ◌&&◌, cond}
-use mathlib.Core.List.{List}
+use mathlib.Core.List.{List, ◌++◌}
 use Prim.Native.Nat.{ℕ, zero, suc, ◌+◌, ◌-◌, ◌/◌, ◌%◌, ◌<◌, ◌≤◌}
 use native.Mathlib.Omega.{arith}
-use borrow.Author.Tests.{ltb-true, ltb-false, lt-ltb, le-ltb, le-leb, lt-leb}
+use borrow.Author.Tests.{lt-ltb, le-ltb, le-leb, lt-leb}
 use lib.Dec.{T, leb, ltb, ltb→lt}
-use lib.ListN.{length, get_or}
-use lib.Seq.{ext_get_or}
+use lib.ListN.{length, get_or, take, drop, length-drop}
+use lib.Seq.{ext_get_or, take_all}
+use borrow.Rule.Slice.PartMut.{put_mid}
+use Rattle.std.proofs.lemmas.List.{drop-drop}
+use Rattle.lists.specs.Fill.{tabulate_from, tabulate}
 use Rattle.lists.specs.Test.{below}
 use Rattle.lists.specs.Bytes.{Bytes}
 use Rattle.lists.proofs.Test.{below_at, and_false}
-use Rattle.lists.proofs.Fill.{length-tabulate, get_d_tabulate, Upto}
+use Rattle.lists.proofs.Fill.{length-tabulate, get_d_tabulate, tabulate_self, tabulate-same, tabulate-append, part_tabulate}
 use Rattle.lists.proofs.Bytes.{get_or-byte, tabulate-bytes}
 use Rattle.field.specs.Field.{add}
 use Rattle.field.proofs.Sums.{add_assoc, add_self, add-zero, add-lt}
-use Rattle.layout.specs.Lengths.{head_size, edc_place, frame_size}
+use Rattle.layout.specs.Lengths.{head_size, frame_main_size, edc_place, frame_size}
 use Rattle.scrambling.specs.Scrambling.{presets, preset_of, shifted, register, scrambling_byte, scrambled_at, scrambled}
 
 -- ---- the register
@@ -54,20 +57,32 @@ pub scrambled_end : (n : ℕ) (f : List ℕ) (q : ℕ) → edc_place ≤ q → s
 unfolding scrambled_at
 scrambled_end n f q h = rw (le-ltb q edc_place h, and_false (leb head_size q))
 
--- the loop starts at byte 12, and the bytes after 2,059 stay
-pub scramble_start : (n : ℕ) (f : List ℕ) → Upto (scrambled_at n f) f f head_size
-scramble_start n f = record { same = refl; done = λ k l. sym (scrambled_head n f k l); left = λ k l. refl }
+-- byte k of the main data, scrambled
+abbrev pub main_byte : ℕ → List ℕ → ℕ → ℕ
+main_byte n f k = add (get_or f (head_size + k) 0) (scrambling_byte (preset_of n) k)
 
-pub scramble_end : (n : ℕ) (f xs : List ℕ) → Upto (scrambled_at n f) f xs edc_place → Upto (scrambled_at n f) f xs frame_size
-scramble_end n f xs w = record {
-  same = w.same;
-  done = λ k l. done k (ltb k edc_place) refl;
-  left = λ k l. w.left k (omega arith);
-}
-  where
-    done : (k : ℕ) (b : Bool) → ltb k edc_place ≡ b → get_or xs k 0 ≡ scrambled_at n f k
-    done k true e = w.done k (ltb-true k edc_place e)
-    done k false e = w.left k (ltb-false k edc_place e) ∙ sym (scrambled_end n f k (ltb-false k edc_place e))
+-- the main data scrambled in its place
+pub scrambled_parts : (n : ℕ) (f : List ℕ) → length f ≡ frame_size
+    → put_mid head_size frame_main_size f (tabulate (main_byte n f) frame_main_size) ≡ scrambled n f
+scrambled_parts n f e =
+    let g : ℕ → ℕ = λ q. get_or f q 0 in
+    let whole : tabulate g frame_size ≡ f = tabulate_self f frame_size e in
+    let last : length (drop edc_place f) ≡ 4 = omega (arith, length-drop edc_place f) in
+    let head : take head_size f ≡ tabulate (scrambled_at n f) head_size =
+    ap (take head_size) (sym whole) ∙ part_tabulate g 0 0 head_size frame_size (omega arith)
+    ∙ tabulate-same g (scrambled_at n f) 0 0 head_size (λ q h. sym (scrambled_head n f (0 + q) (omega arith))) in
+    let middle : tabulate (main_byte n f) frame_main_size ≡ tabulate_from (scrambled_at n f) head_size frame_main_size =
+    tabulate-same (main_byte n f) (scrambled_at n f) 0 head_size frame_main_size
+    (λ q h. let same : head_size + (0 + q) ≡ head_size + q = omega arith in
+    let place : 0 + q ≡ head_size + q - head_size = omega arith in
+    ap₂ (λ (x y : ℕ). add (get_or f x 0) (scrambling_byte (preset_of n) y)) same place
+    ∙ sym (scrambled_main n f (head_size + q) (omega arith) (omega arith))) in
+    let end : drop frame_main_size (drop head_size f) ≡ tabulate_from (scrambled_at n f) edc_place 4 =
+    drop-drop frame_main_size head_size f ∙ sym (take_all 4 (drop edc_place f) (omega arith)) ∙ ap (λ (xs : List ℕ). take 4 (drop edc_place xs)) (sym whole)
+    ∙ part_tabulate g 0 edc_place 4 frame_size (omega arith)
+    ∙ tabulate-same g (scrambled_at n f) edc_place edc_place 4 (λ q h. sym (scrambled_end n f (edc_place + q) (omega arith))) in
+    ap₂ ◌++◌ head (ap₂ ◌++◌ middle end ∙ tabulate-append (scrambled_at n f) head_size frame_main_size 4)
+    ∙ tabulate-append (scrambled_at n f) 0 head_size 2052
 
 -- ---- laws
 

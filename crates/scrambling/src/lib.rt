@@ -1,10 +1,10 @@
 // Scrambling (ECMA-268, clause 17) of the main data bytes of a frame. The frame goes in and comes back by value.
 #![tactic(auto)]
 
-ghost use Rattle.std.specs.Prelude.{◌≡◌, ℕ, ◌%◌, ◌<◌, get_or};
+ghost use Rattle.std.specs.Prelude.{◌≡◌, ℕ, ◌<◌, get_or};
 ghost use Rattle.lists.specs.Fill.{tabulate};
 ghost use Rattle.layout.specs.Lengths.{frame_main_size};
-ghost use Rattle.scrambling.specs.Scrambling.{presets, preset_of, register, scrambling_byte, scrambled};
+ghost use Rattle.scrambling.specs.Scrambling.{preset_of, register, scrambling_byte, scrambled};
 
 use layout::{EDC_PLACE, FRAME_MAIN_SIZE, FRAME_SIZE, HEAD_SIZE};
 
@@ -13,19 +13,11 @@ const PRESETS: [u16; 16] = [
     0x0040, 0x4002, 0x0080, 0x0005,
 ];
 
-fn preset_values() -> [u16; 16]
-    ensures { result ≡ presets }
-{
-    PRESETS
-}
-
 fn preset(number: u32) -> u16
     ensures value { result ≡ preset_of number }
     ensures upper_bound { result < 0x8000 }
 {
-    let presets = preset_values();
-    let k = (number / 16 % 16) as usize;
-    presets[k]
+    PRESETS[(number / 16 % 16) as usize]
 }
 
 // Eight shifts at once: r6 to r0 move up by eight places, and r14 to r7 xor r10 to r3 enter below them.
@@ -37,23 +29,15 @@ fn eight_shifts(r: u16) -> u16
     r % 128 * 256 + ((r / 128) ^ (r / 8)) % 256
 }
 
-fn low_byte(r: u16) -> u8
-    ensures { result ≡ r % 256 }
-{
-    (r % 256) as u8
-}
-
 // The first fifteen scrambling bytes of the sector.
 fn first_bytes(number: u32) -> [u8; FRAME_MAIN_SIZE]
     ensures { (i : ℕ) → i < 15 → get_or result i 0 ≡ scrambling_byte (preset_of number) i }
 {
-    let mut s = [0u8; FRAME_MAIN_SIZE];
+    let mut s = [0; FRAME_MAIN_SIZE];
     let mut r = preset(number);
-    let mut i: usize = 0;
-    while i < 15 {
-        s[i] = low_byte(r);
+    for i in 0..15 {
+        s[i] = (r % 256) as u8;
         r = eight_shifts(r);
-        i += 1;
     }
     s
 }
@@ -63,24 +47,19 @@ fn scrambling_bytes(number: u32) -> [u8; FRAME_MAIN_SIZE]
     ensures { result ≡ tabulate (scrambling_byte (preset_of number)) frame_main_size }
 {
     let mut s = first_bytes(number);
-    let mut i: usize = 15;
-    while i < FRAME_MAIN_SIZE {
+    for i in 15..FRAME_MAIN_SIZE {
         s[i] = s[i - 15] ^ s[i - 11];
-        i += 1;
     }
     s
 }
 
 // The frame of a sector with its main data bytes scrambled, or unscrambled.
-pub fn scramble(frame: [u8; FRAME_SIZE], number: u32) -> [u8; FRAME_SIZE]
+pub fn scramble(mut frame: [u8; FRAME_SIZE], number: u32) -> [u8; FRAME_SIZE]
     ensures { result ≡ scrambled number frame }
 {
     let s = scrambling_bytes(number);
-    let mut g = frame;
-    let mut q: usize = HEAD_SIZE;
-    while q < EDC_PLACE {
-        g[q] = g[q] ^ s[q - HEAD_SIZE];
-        q += 1;
+    for (i, byte) in frame[HEAD_SIZE..EDC_PLACE].iter_mut().enumerate() {
+        *byte ^= s[i];
     }
-    g
+    frame
 }

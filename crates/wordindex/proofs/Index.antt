@@ -17,8 +17,7 @@ use Rattle.lists.proofs.Test.{and_left, and_right, truth, truth_of, every-at}
 use Rattle.annexg.specs.Read.{table_of, agrees, fits_of, read_word, both_zero, StandsFor}
 use Rattle.annexg.specs.Inner.{read_from}
 use Rattle.annexg.specs.Tables.{main_table, sub_table}
-use Rattle.annexg.specs.declared.Reading.{Reading}
-use Rattle.annexg.specs.declared.Reading.TheVariants.{Byte, Unknown}
+use Rattle.std.specs.Prelude.{Option, Some, None}
 use Rattle.annexg.proofs.Search.{each_table, in_table, length_main, length-sub}
 use Rattle.annexg.proofs.Unique.{Tree, leaf, put, get, fit_from_given, unknown_from}
 use Rattle.annexg.proofs.Stands.{read_stands}
@@ -221,8 +220,8 @@ index_reads w f = answer (read_word w f) refl
     n : ℕ
     n = get_or word_index (slot_of w (both_zero f)) 0
 
-    answer : (r : Reading) → read_word w f ≡ r → read_from w (both_zero f) (table_no n) (entry_no n) ≡ read_word w f
-    answer (Byte b) e =
+    answer : (r : Option ℕ) → read_word w f ≡ r → read_from w (both_zero f) (table_no n) (entry_no n) ≡ read_word w f
+    answer (Some b) e =
         let named = index_names (read_stands w f b e) in
         fit_from_given w (both_zero f) (table_no n) (entry_no n) (table_two n) named.inside named.fit
-    answer Unknown e = unknown_from w (both_zero f) e (table_no n) (entry_no n) ∙ sym e
+    answer None e = unknown_from w (both_zero f) e (table_no n) (entry_no n) ∙ sym e

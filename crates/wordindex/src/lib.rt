@@ -4,8 +4,18 @@
 #![tactic(auto)]
 
 ghost use Rattle.std.specs.Prelude.{◌≡◌, ◌<◌};
-ghost use Rattle.annexg.specs.Read.{table_of, read_word, reading_number};
+ghost use Rattle.annexg.specs.Read.{table_of, read_word};
 ghost use Rattle.wordindex.specs.Inner.{slot_of, put_one, put_entry, put_all, word_index};
+
+use annexg::CodeWords;
+
+// The tables of Code Words, with their index.
+#[derive(Clone, Copy)]
+pub struct WordReader {
+    words: CodeWords,
+    index: [u32; 8192],
+    ghost index_value: { index ≡ word_index },
+}
 
 // The slot of a word: of two neighbours the second is for words before bits 15 and 3 that are both ZERO.
 fn slot_of(word: u32, zero: bool) -> usize
@@ -13,7 +23,7 @@ fn slot_of(word: u32, zero: bool) -> usize
     ensures value { result ≡ slot_of word zero }
     ensures upper_bound { result < 8192 }
 {
-    ((word * 2747 / 16) % 4096) as usize * 2 + annexg::digit(zero)
+    ((word * 2747 / 16) % 4096) as usize * 2 + usize::from(zero)
 }
 
 // An entry takes the slot of its word where its next State agrees: the slot holds its number.
@@ -41,49 +51,31 @@ fn put_table(table: u32, entries: &[u32], index: &mut [u32; 8192])
     requires entries_value { entries.now ≡ table_of table }
     ensures { index.new ≡ put_all table index.old }
 {
-    let mut k: usize = 0;
-    while k < entries.len() {
+    for (k, entry) in entries.iter().enumerate() {
         let number = table * 1024 + k as u32;
-        put_entry(number, entries[k], index);
-        k += 1;
+        put_entry(number, *entry, index);
     }
 }
 
-// The index of both tables.
-pub fn word_index(words: &[u32; 1024], substitutes: &[u32; 352]) -> [u32; 8192]
-    requires words_value { words.now ≡ table_of 0 }
-    requires substitutes_value { substitutes.now ≡ table_of 1 }
-    ensures { result ≡ word_index }
-{
-    let mut index = [0u32; 8192];
-    put_table(0, words, &mut index);
-    put_table(1, substitutes, &mut index);
-    index
-}
+impl WordReader {
+    pub fn new() -> WordReader {
+        let words = CodeWords::new();
+        let mut index = [0u32; 8192];
+        put_table(0, &words.main, &mut index);
+        put_table(1, &words.substitutes, &mut index);
+        WordReader { words, index }
+    }
 
-// What a word is read as where another half word follows: the search through the columns, from the entry on whose number is in the word's slot.
-pub fn read_indexed(
-    words: &[u32; 1024],
-    substitutes: &[u32; 352],
-    index: &[u32; 8192],
-    word: u16,
-    following: u16,
-) -> u32
-    requires { (words.now ≡ table_of 0)
-        × (substitutes.now ≡ table_of 1)
-        × (index.now ≡ word_index) }
-    ensures { result ≡ reading_number (read_word word following) }
-{
-    let zero = annexg::both_zero(following);
-    let at = slot_of(word as u32, zero);
-    let number = index[at];
-    // % 2 says nothing new: with it the compiler knows that there are two tables
-    annexg::search_from(
-        words,
-        substitutes,
-        word,
-        zero,
-        (number / 1024 % 2) as usize,
-        (number % 1024) as usize,
-    )
+    // What a word is read as where another half word follows: the search through the columns, from the entry on whose number is in the word's slot.
+    pub fn read(&self, word: u16, following: u16) -> Option<u8>
+        ensures { result ≡ read_word word following }
+    {
+        let zero = annexg::both_zero(following);
+        let at = slot_of(u32::from(word), zero);
+        let number = self.index[at];
+        // % 2 says nothing new: with it the compiler knows that there are two tables
+        let table = (number / 1024 % 2) as usize;
+        self.words
+            .search_from(word, zero, table, (number % 1024) as usize)
+    }
 }

@@ -1,38 +1,43 @@
 -- `scrambling::scramble` meets its contract: each turn scrambles one byte. Assumes nothing.
-use mathlib.Core.Path.{◌≡◌, ap, ap₂, sym, ◌∙◌}
+use mathlib.Core.Path.{◌≡◌, ap, ap₂, ◌∙◌}
 use mathlib.Core.List.{List}
-use Prim.Native.Nat.{ℕ, ◌-◌}
+use Prim.Native.Nat.{ℕ}
 use lib.Bits.{bit_xor}
-use lib.ListN.{get_or}
+use lib.ListN.{length, get_or, take, drop, length-drop}
+use lib.Seq.{length-take-le, get_or-take, get_or-drop}
 use borrow.Author.Rules.{rules}
+use borrow.Rule.Slice.PartMut.{put_mid}
 use native.Mathlib.Omega.{arith}
-use Rattle.lists.proofs.Fill.{upto_more, upto_all, get_d_tabulate}
+use Rattle.lists.proofs.Fill.{upto_none, upto_more, upto_all, get_d_tabulate}
 use Rattle.field.specs.Field.{add}
-use Rattle.layout.specs.Lengths.{head_size, frame_main_size, edc_place, frame_size}
-use Rattle.scrambling.specs.Scrambling.{preset_of, scrambling_byte, scrambled_at}
-use Rattle.scrambling.proofs.Scrambled.{scrambled_main, scramble_start, scramble_end}
+use Rattle.layout.specs.Lengths.{head_size, frame_main_size, frame_size}
+use Rattle.scrambling.specs.Scrambling.{preset_of, scrambling_byte}
+use Rattle.scrambling.proofs.Scrambled.{main_byte, scrambled_parts}
 use Rattle.scrambling.proofs.scramble.Goals as goal
 
-pub loop-q-init : goal.loop-q-init
-loop-q-init c = (omega arith, omega arith, search rules, scramble_start c.args.number c.args.frame)
+main_length : (f : List ℕ) → length f ≡ frame_size → length (take frame_main_size (drop head_size f)) ≡ frame_main_size
+main_length f e = length-take-le frame_main_size (drop head_size f) (omega (arith, length-drop head_size f))
 
-pub loop-q-preserved : goal.loop-q-preserved
+pub loop-i-init : goal.loop-i-init
+loop-i-init c = upto_none _ _
+
+pub loop-i-preserved : goal.loop-i-preserved
 unfolding add
-loop-q-preserved c =
+loop-i-preserved c =
     let n : ℕ = c.args.number in
-    let old = c.args.frame in
-    let k : ℕ = c.loop-q.q - head_size in
-    let e = ap (λ (x : List ℕ). get_or x k 0) c.scrambling_bytes-s.ensures ∙ get_d_tabulate (scrambling_byte (preset_of n)) frame_main_size k (omega arith) in (
-      omega arith,
-      omega arith,
-      c.loop-q.invariant.2,
-      upto_more (scrambled_at n old) old c.loop-q.g c.loop-q.q _ (omega (arith, c.loop-q.invariant.2, c.loop-q.invariant.3.same))
-          (ap₂ bit_xor (c.loop-q.invariant.3.left c.loop-q.q (omega arith)) e ∙ sym (scrambled_main n old c.loop-q.q (omega arith) (omega arith))) c.loop-q.invariant.3,
-    )
+    let f = c.args.frame in
+    let i : ℕ = c.loop-i.i in
+    let w = c.loop-i.invariant in
+    let main : length (take frame_main_size (drop head_size f)) ≡ frame_main_size = main_length f (search rules) in
+    let byte = w.left i (omega arith) ∙ get_or-take frame_main_size (drop head_size f) i 0 (omega arith) ∙ get_or-drop head_size f i 0 in
+    let key = ap (λ (x : List ℕ). get_or x i 0) c.scrambling_bytes-s.ensures ∙ get_d_tabulate (scrambling_byte (preset_of n)) frame_main_size i (omega arith) in
+    upto_more (main_byte n f) _ _ i _ (omega (arith, w.same)) (ap₂ bit_xor byte key) w
 
 pub returns : goal.returns
 returns c =
-    let e : c.loop-q.q ≡ edc_place = omega arith in
     let n : ℕ = c.args.number in
-    let old = c.args.frame in
-    upto_all (scrambled_at n old) old c.loop-q.g frame_size c.loop-q.invariant.2 (scramble_end n old c.loop-q.g (rw e at c.loop-q.invariant.3))
+    let f = c.args.frame in
+    let main : length (take frame_main_size (drop head_size f)) ≡ frame_main_size = main_length f (search rules) in
+    let e : c.loop-i.i ≡ frame_main_size = omega arith in
+    ap (put_mid head_size frame_main_size f) (upto_all (main_byte n f) _ c.loop-i.byte-items frame_main_size main (rw e at c.loop-i.invariant))
+    ∙ scrambled_parts n f (search rules)

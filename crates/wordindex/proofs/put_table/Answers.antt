@@ -18,7 +18,7 @@ below : (t : ℕ) (es : List ℕ) → (t < 2) × (es ≡ table_of t) → (k : �
 below t es lent k = rw lent.1 (table_below t k)
 
 pub loop-k-init : goal.loop-k-init
-loop-k-init c = (omega arith, none_put _ _)
+loop-k-init c = none_put _ _
 
 pub overflow_mul-number : goal.overflow_mul-number
 overflow_mul-number c = omega (arith, c.requires.table_bound)
@@ -35,9 +35,9 @@ put_entry-requires c = below c.args.table c.args.entries.now (c.requires.table_b
 pub loop-k-preserved : goal.loop-k-preserved
 loop-k-preserved c =
     let a = c.args in
-    (omega arith, more_put a.table a.entries.now a.index.now _ _ c.loop-k.k c.requires.entries_value c.loop-k.invariant.1 c.put_entry.ensures)
+    more_put a.table a.entries.now a.index.now _ _ c.loop-k.k c.requires.entries_value c.loop-k.invariant c.put_entry.ensures
 
 pub returns : goal.returns
 returns c =
     let a = c.args in
-    all_put a.table a.entries.now a.index.now _ c.loop-k.k c.requires.entries_value (omega arith) c.loop-k.invariant.1
+    all_put a.table a.entries.now a.index.now _ c.loop-k.k c.requires.entries_value (omega arith) c.loop-k.invariant

@@ -1,12 +1,7 @@
 -- `wordindex::put_table` meets its contract: the entries before k have taken their slots. Assumes nothing.
 use mathlib.Core.Path.{◌≡◌}
-use Prim.Native.Nat.{◌-◌, ◌≤◌}
-use lib.ListN.{length}
 use Rattle.wordindex.specs.Inner.{put_first}
 use Rattle.wordindex.proofs.put_table.Given as goal
 
 abbrev pub invariant-loop-k : goal.invariant-loop-k
-invariant-loop-k l = (l.k ≤ length l.entries) × (l.index ≡ put_first l.table l.k l.initial.index)
-
-abbrev pub decreases-loop-k : goal.decreases-loop-k
-decreases-loop-k l = length l.entries - l.k
+invariant-loop-k l = l.index ≡ put_first l.table l.k l.initial.index

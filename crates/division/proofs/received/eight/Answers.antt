@@ -1,9 +1,5 @@
 -- `received::eight` meets its contract. Assumes nothing.
-use mathlib.Core.Path.{◌≡◌, refl, ap, ap₂, ◌∙◌}
-use Prim.Native.Nat.{ℕ, ◌+◌, ◌*◌, ◌<◌}
-use native.Mathlib.Omega.{arith}
-use mathlib.Core.List.{List}
-use lib.ListN.{get_or}
+use Rattle.std.proofs.Common.{◌≡◌, refl, ap, ap₂, ◌∙◌, ℕ, ◌+◌, ◌*◌, ◌<◌, arith, List, get_or}
 use Rattle.multiples.specs.Inner.{top, bytes_as_number}
 use Rattle.multiples.proofs.Numbers.{number_more, number-room}
 use Rattle.division.proofs.received.eight.Goals as goal
@@ -14,25 +10,22 @@ few bytes a i x small h e = omega (arith, e, number-room (λ k. get_or bytes k 0
 
 pub loop-i-init : goal.loop-i-init
 unfolding bytes_as_number
-loop-i-init c = (omega arith, refl)
+loop-i-init c = refl
 
 pub overflow_mul-x : goal.overflow_mul-x
-overflow_mul-x c = omega (arith, few c.args.bytes.now c.args.a c.loop-i.i c.loop-i.x (λ k. omega (arith, c.type_inv.bytes k)) (omega arith) c.loop-i.invariant.1)
-
-pub overflow_add-a : goal.overflow_add-a
-overflow_add-a c = omega (arith, c.requires)
+overflow_mul-x c = omega (arith, few c.args.bytes.now c.args.a c.loop-i.i c.loop-i.x (λ k. omega (arith, c.type_inv.bytes k)) (omega arith) c.loop-i.invariant)
 
 pub overflow_add-x : goal.overflow_add-x
 overflow_add-x c =
     omega (
       arith,
-      few c.args.bytes.now c.args.a c.loop-i.i c.loop-i.x (λ k. omega (arith, c.type_inv.bytes k)) (omega arith) c.loop-i.invariant.1,
+      few c.args.bytes.now c.args.a c.loop-i.i c.loop-i.x (λ k. omega (arith, c.type_inv.bytes k)) (omega arith) c.loop-i.invariant,
       c.type_inv.bytes (c.args.a + c.loop-i.i),
       c.place.ensures,
     )
 
 pub loop-i-preserved : goal.loop-i-preserved
-loop-i-preserved c = (omega arith, ap₂ (λ (x y : ℕ). x * 256 + y) c.loop-i.invariant.1 c.place.ensures ∙ number_more (λ k. get_or c.args.bytes.now k 0) c.args.a c.loop-i.i)
+loop-i-preserved c = ap₂ (λ (x y : ℕ). x * 256 + y) c.loop-i.invariant c.place.ensures ∙ number_more (λ k. get_or c.args.bytes.now k 0) c.args.a c.loop-i.i
 
 pub returns : goal.returns
-returns c = c.loop-i.invariant.1 ∙ ap (bytes_as_number (λ k. get_or c.args.bytes.now k 0) c.args.a) (omega arith)
+returns c = c.loop-i.invariant ∙ ap (bytes_as_number (λ k. get_or c.args.bytes.now k 0) c.args.a) (omega arith)

@@ -9,4 +9,4 @@ use Rattle.layout.proofs.block.column_at.Goals as goal
 pub returns : goal.returns
 returns c = let xs = c.args.block.now in
     let j = c.args.j in
-    c.take_column.ensures ∙ take_all 208 (column_of xs j) (omega (arith, column_length xs j))
+    c.column_part.ensures ∙ take_all 208 (column_of xs j) (omega (arith, column_length xs j))

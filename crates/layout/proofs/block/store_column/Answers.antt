@@ -10,31 +10,17 @@ use Rattle.layout.proofs.Places.{column_apart, column_lt}
 use Rattle.layout.proofs.block.store_column.Goals as goal
 
 pub loop-k-init : goal.loop-k-init
-loop-k-init c = (omega arith, stored_none _ _ _)
-
-pub overflow_mul-block : goal.overflow_mul-block
-overflow_mul-block c = omega (arith, c.recording_row-q.ensures.upper_bound)
-
-pub overflow_add-block : goal.overflow_add-block
-overflow_add-block c = omega (arith, c.recording_row-q.ensures.upper_bound)
-
-pub bounds-block-q : goal.bounds-block-q
-bounds-block-q c = omega (arith, c.recording_row-q.ensures.upper_bound, c.loop-k.invariant.1.size)
+loop-k-init c = stored_none _ _ _
 
 pub loop-k-preserved : goal.loop-k-preserved
 loop-k-preserved c = let a = c.args in
     let at : ℕ → ℕ = λ m. column_place a.j (a.i + m) in
-    let h = column_lt a.j (a.i + c.loop-k.k) (omega arith) (omega arith) in (
-      omega arith,
-      subst (λ (x : ℕ). Stored at a.part.now a.block.now (set c.loop-k.block (x * 182 + a.j) (get_or a.part.now c.loop-k.k 0)) (c.loop-k.k + 1))
-          (sym c.recording_row-q.ensures.value)
-          (stored_more at a.part.now a.block.now c.loop-k.block c.loop-k.k
-          (λ m b. column_apart a.j (a.i + m) (a.i + c.loop-k.k) (omega arith) (omega arith)) (omega (arith, h)) c.loop-k.invariant.1),
-    )
-
-pub shape_of-block : goal.shape_of-block
-shape_of-block c = c.loop-k.invariant.1.size
+    let h = column_lt a.j (a.i + c.loop-k.k) (omega arith) (omega arith) in
+    subst (λ (x : ℕ). Stored at a.part.now a.block.now (set c.loop-k.block (x * 182 + a.j) (get_or a.part.now c.loop-k.k 0)) (c.loop-k.k + 1))
+    (sym c.recording_row.ensures.value)
+    (stored_more at a.part.now a.block.now c.loop-k.block c.loop-k.k
+    (λ m b. column_apart a.j (a.i + m) (a.i + c.loop-k.k) (omega arith) (omega arith)) (omega (arith, h)) c.loop-k.invariant)
 
 pub returns : goal.returns
 returns c = let e : c.loop-k.k ≡ length c.args.part.now = omega arith in
-    rw e at c.loop-k.invariant.1
+    rw e at c.loop-k.invariant

@@ -7,6 +7,6 @@ use Rattle.lightrepair.proofs.formulas.equations_solved.Goals as goal
 pub returns : goal.returns
 unfolding add
 returns c = (
-  c.quotient.ensures ∙ ap₂ (λ (n d : ℕ). mul n (inverse d)) (ap₂ add c.product.ensures c.product-2.ensures) c.requires.1,
-  c.quotient-2.ensures ∙ ap₂ (λ (n d : ℕ). mul n (inverse d)) (ap₂ add c.product-3.ensures c.product-4.ensures) c.requires.1,
+  c.quotient.ensures ∙ ap₂ (λ (n d : ℕ). mul n (inverse d)) (ap₂ add c.product.ensures c.product-2.ensures) c.requires,
+  c.quotient-2.ensures ∙ ap₂ (λ (n d : ℕ). mul n (inverse d)) (ap₂ add c.product-3.ensures c.product-4.ensures) c.requires,
 )

@@ -10,16 +10,15 @@ use Rattle.codes.proofs.Formulas.{over_nonzero, one_explains}
 use Rattle.layout.specs.Lengths.{row_size, inner_size}
 use Rattle.lightrepair.proofs.Found.{no_one, at_small}
 use Rattle.lightrepair.proofs.formulas.one_error.Goals as goal
+use Rattle.lightrepair.proofs.formulas.one_error.Goals.{then-value-eq0-via-then-value-eq0, then-value-eq0-via-else-value-eq0+then-sums-eq0}
 
 pub returns-then-value-eq0 : goal.returns-then-value-eq0
 returns-then-value-eq0 c =
     let s = c.args.sums in
-    no_one s (λ e l w. w.first c.if-value-eq0.true)
-
-pub returns-then-sums-eq0 : goal.returns-then-sums-eq0
-returns-then-sums-eq0 c =
-    let s = c.args.sums in
-    no_one s (λ e l w. w.second c.if-sums-eq0.true)
+    elim c.then-value-eq0.branch [
+      | then-value-eq0-via-then-value-eq0 x ↦ no_one s (λ e l w. w.first x.if-value-eq0.true)
+      | then-value-eq0-via-else-value-eq0+then-sums-eq0 x ↦ no_one s (λ e l w. w.second x.if-sums-eq0.true)
+    ]
 
 pub returns-then-not-sums_follow : goal.returns-then-not-sums_follow
 returns-then-not-sums_follow c =
@@ -31,14 +30,12 @@ returns-then-not-sums_follow c =
 
 pub logarithm-place-requires : goal.logarithm-place-requires
 logarithm-place-requires c =
-    let s = c.args.sums in (
-      c.requires,
-      subst (λ (x : ℕ). 0 < x) (sym c.quotient-x.ensures)
-          (over_nonzero (at s 1) (at s 0) (at_small s (λ j. search rules) 1) (at_small s (λ j. search rules) 0) c.if-sums-eq0.false c.if-value-eq0.false),
-    )
+    let s = c.args.sums in
+    subst (λ (x : ℕ). 0 < x) (sym c.quotient-x.ensures)
+    (over_nonzero (at s 1) (at s 0) (at_small s (λ j. search rules) 1) (at_small s (λ j. search rules) 0) c.if-sums-eq0.false c.if-value-eq0.false)
 
-pub returns-then-index-ge-ROW_SIZE : goal.returns-then-index-ge-ROW_SIZE
-returns-then-index-ge-ROW_SIZE c =
+pub returns-then-from-ge-ROW_SIZE : goal.returns-then-from-ge-ROW_SIZE
+returns-then-from-ge-ROW_SIZE c =
     let s = c.args.sums in
     no_one s
     (λ e l w. omega (

@@ -14,5 +14,5 @@ unfolding change add
 returns c =
     let w = c.args.bytes in
     let size : length w ≡ row_size = search rules in
-    let same : 181 - c.index.result ≡ length w - suc c.args.wrong.place = omega (arith, size, c.index.ensures) in
+    let same : 181 - c.from.result ≡ length w - suc c.args.wrong.place = omega (arith, size, c.from.ensures) in
     ap (λ (i : ℕ). set w i (add (get_or w i 0) c.args.wrong.value)) same
