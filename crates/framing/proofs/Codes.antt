@@ -10,8 +10,8 @@ use Rattle.lists.proofs.Test.{and_false}
 use Rattle.annexg.specs.Sync.{is_sync, sync_end}
 use Rattle.octets.specs.Halves.{bits_at}
 use Rattle.channel.specs.Block.{some_from}
-use Rattle.layout.specs.Lengths.{frame_bits, sync_bits}
-use Rattle.framing.specs.Frames.{bit_count, sync_at, frame_at}
+use Rattle.layout.specs.Lengths.{sync_bits}
+use Rattle.framing.specs.Frames.{bit_count, sync_at}
 
 -- the test of two half words for each number
 abbrev pub is_code : ℕ → ℕ → Bool

@@ -3,9 +3,7 @@
 #![tactic(auto)]
 
 ghost use Rattle.std.specs.Prelude.{◌≡◌, ◌+◌, ◌*◌, ◌<◌, ◌≤◌, ◌^◌, [], length, MatchOption};
-ghost use Rattle.annexg.specs.Read.{table_of};
 ghost use Rattle.annexg.specs.Sync.{is_sync};
-ghost use Rattle.wordindex.specs.Inner.{word_index};
 ghost use Rattle.channel.specs.Block.{some_from};
 ghost use Rattle.layout.specs.Lengths.{frame_bits, longest_capture};
 ghost use Rattle.framing.specs.Frames.{bit_count, sync_at, frame_at, frames_from, bytes_of_frame};
@@ -13,6 +11,7 @@ ghost use Rattle.framing.specs.Inner.{NextFrame};
 
 use annexg::SyncCodes;
 use layout::{FRAME_BYTES, FRAME_STREAM};
+use wordindex::WordReader;
 
 // Two half words are a SYNC Code of table 4, whatever its number.
 fn any_sync(syncs: &SyncCodes, first: u16, second: u16) -> bool
@@ -52,17 +51,8 @@ pub fn next_frame(syncs: &SyncCodes, stream: &[u8], from: usize) -> Option<usize
 }
 
 // The bytes of the frame that starts at a bit. The last word is read with the first half of the second SYNC Code.
-pub fn read_frame(
-    words: &[u32; 1024],
-    substitutes: &[u32; 352],
-    index: &[u32; 8192],
-    stream: &[u8],
-    at: usize,
-) -> [u8; FRAME_BYTES]
-    requires { (words.now ≡ table_of 0)
-        × (substitutes.now ≡ table_of 1)
-        × (index.now ≡ word_index)
-        × (at + frame_bits + 16 ≤ bit_count stream.now) }
+pub fn read_frame(words: &WordReader, stream: &[u8], at: usize) -> [u8; FRAME_BYTES]
+    requires { at + frame_bits + 16 ≤ bit_count stream.now }
     ensures { result ≡ bytes_of_frame stream.now at }
 {
     let byte = at / 8;
@@ -72,9 +62,8 @@ pub fn read_frame(
         let place = byte + 4 + 2 * i;
         let word = octets::half_at_bit(stream, place, offset);
         let following = octets::half_at_bit(stream, place + 2, offset);
-        let r = wordindex::read_indexed(words, substitutes, index, word, following);
-        // the byte, or 256 for an unknown word, which gives byte 0
-        *b = (r % 256) as u8;
+        // an unknown word gives byte 0
+        *b = words.read(word, following).unwrap_or(0);
     }
     bytes
 }
