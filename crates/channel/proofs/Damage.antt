@@ -11,7 +11,7 @@ use lib.ListN.{length, get_or, length-append}
 use Rattle.lists.specs.Bytes.{Bytes}
 use Rattle.lists.proofs.Test.{and_left, and_right, truth_of}
 use Rattle.annexg.specs.Read.{State, both_zero, read_word}
-use Rattle.annexg.specs.declared.Reading.TheVariants.{Byte}
+use Rattle.std.specs.Prelude.{Some}
 use Rattle.layout.specs.Lengths.{frame_bytes}
 use Rattle.channel.specs.Block.{frames, reading_at}
 use Rattle.octets.specs.Halves.{packed, half_at}
@@ -40,7 +40,7 @@ same-both_zero f g h =
 module _ (s l n g : ℕ) (bs : List ℕ) (i₀ : Item) (end : List Item) (cs : List Bool) (e : length bs ≡ frame_bytes * n) (hb : Bytes bs) (he : T (all_proper (i₀ ∷ end)))
     (hs : State s) (p : T (permitted s l (frames g n bs ++ i₀ ∷ end) cs)) where
   pub reading_frames :
-      (xs : List ℕ) (i : ℕ) → i < frame_bytes * n → disturbed (packed (stream s (frames g n bs ++ i₀ ∷ end) cs)) xs i ≡ false → reading_at xs i ≡ Byte (get_or bs i 0)
+      (xs : List ℕ) (i : ℕ) → i < frame_bytes * n → disturbed (packed (stream s (frames g n bs ++ i₀ ∷ end) cs)) xs i ≡ false → reading_at xs i ≡ Some (get_or bs i 0)
   unfolding disturbed
   reading_frames xs i hi t =
       let items = frames g n bs ++ i₀ ∷ end in

@@ -10,7 +10,7 @@ use lib.Dec.{T}
 use lib.ListN.{length, get_or}
 use Rattle.lists.specs.Bytes.{Bytes}
 use Rattle.annexg.specs.Read.{State}
-use Rattle.annexg.specs.declared.Reading.TheVariants.{Byte}
+use Rattle.std.specs.Prelude.{Some}
 use Rattle.layout.specs.Lengths.{frame_bytes, block_size, block_frames}
 use Rattle.channel.specs.Block.{frames, run_items, block_items, permitted_choices, permitted_stream, reading_at, reading_byte, read_at, is_unknown, unknown_at, touched}
 use Rattle.octets.specs.Halves.{packed}
@@ -25,7 +25,7 @@ module _ (s l n g : ℕ) (bs : List ℕ) (i₀ : Item) (end : List Item) (cs : L
     (hs : State s) (p : T (permitted s l (frames g n bs ++ i₀ ∷ end) cs)) where
   pub reading_any :
       (xs : List ℕ) → Bytes xs → (i : ℕ) → i < frame_bytes * n → touched (packed (stream s (frames g n bs ++ i₀ ∷ end) cs)) xs i ≡ false
-      → reading_at xs i ≡ Byte (get_or bs i 0)
+      → reading_at xs i ≡ Some (get_or bs i 0)
   reading_any xs hx i hi t =
       let ys = packed (stream s (frames g n bs ++ i₀ ∷ end) cs) in
       let by = stream-bytes s l (frames g n bs ++ i₀ ∷ end) cs (proper-append (frames g n bs) (i₀ ∷ end) (frames-proper n g bs e hb) he) hs p in
@@ -70,7 +70,7 @@ laid_bytes {bs} {ys} m =
 
 module _ {bs ys : List ℕ} (m : LaidBlock bs ys) (xs : List ℕ) (hx : Bytes xs) where
   -- READING in a block, at the place where the sector reader looks,
-  pub reading_word : (i : ℕ) → i < block_size → touched ys xs i ≡ false → reading_at xs i ≡ Byte (get_or bs i 0)
+  pub reading_word : (i : ℕ) → i < block_size → touched ys xs i ≡ false → reading_at xs i ≡ Some (get_or bs i 0)
   unfolding run_items
   reading_word i hi t =
       reading_any m.state m.last block_frames 0 bs (sync 0) [] m.choices m.size m.bytes closing_proper m.is_state m.ok xs hx i hi

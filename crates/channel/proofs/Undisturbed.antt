@@ -12,7 +12,7 @@ use lib.ListN.{length, get_or, take, drop, length-append}
 use Rattle.lists.proofs.Test.{and_left, and_right}
 use Rattle.annexg.specs.Read.{State}
 use Rattle.annexg.specs.Sync.{code_for, sync_end}
-use Rattle.annexg.specs.declared.Reading.TheVariants.{Byte}
+use Rattle.std.specs.Prelude.{Some}
 use Rattle.layout.specs.Lengths.{frame_bytes, frame_halves, block_size, block_frames}
 use Rattle.channel.specs.Channel.{Item, sync, byte, next_for, last_for, allowed, permitted, stream, place, proper, all_proper}
 use Rattle.layout.specs.Sectors.{code_of}
@@ -93,7 +93,7 @@ module _ {bs ys : List ℕ} (m : LaidBlock bs ys) where
   unfolding run_items
   laid_half k = ap (λ (y : List ℕ). half_at y k) m.is ∙ half-packed laid k
 
-  pub word_known : (i : ℕ) → i < block_size → reading_at ys i ≡ Byte (get_or bs i 0)
+  pub word_known : (i : ℕ) → i < block_size → reading_at ys i ≡ Some (get_or bs i 0)
   word_known i h = reading_word m ys (laid_bytes m) i h (untouched ys i)
 
   pub sync_known : (f : ℕ) → f < block_frames → SyncAt (code_of f) (half_at ys (frame_halves * f)) (half_at ys (frame_halves * f + 1))

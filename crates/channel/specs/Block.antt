@@ -2,13 +2,11 @@
 -- and the marks that are read (read_sector, erasures_of_sector, read_block, erasures_of_block), and what damage touches (touched, heavy_rows, overloaded_rows; of two readings
 -- clashing_rows). "Permitted stream", "touched", "heavy row", "overloaded row" and "clashing row" are the project's own terms.
 -- Assumes nothing.
-use Rattle.std.specs.Prelude.{◌≡◌, Bool, true, false, not, ◌&&◌, ◌||◌, List, [], ◌∷◌, ◌++◌, map, ℕ, zero, suc, ◌+◌, ◌*◌, eqb, ltb, length, take, drop}
+use Rattle.std.specs.Prelude.{◌≡◌, Bool, false, not, ◌&&◌, ◌||◌, List, [], ◌∷◌, ◌++◌, map, ℕ, zero, suc, ◌+◌, ◌*◌, eqb, ltb, length, take, drop, Option, is_none, unwrap_or}
 use Rattle.lists.specs.Bytes.{Bytes}
 use Rattle.lists.specs.Fill.{tabulate}
 use Rattle.lists.specs.Count.{bit, count_from}
 use Rattle.annexg.specs.Read.{read_word}
-use Rattle.annexg.specs.declared.Reading.{Reading}
-use Rattle.annexg.specs.declared.Reading.TheVariants.{Byte, Unknown}
 use Rattle.octets.specs.Halves.{packed, half_at, bit_at}
 use Rattle.layout.specs.Lengths.{frame_bytes, sector_frames, block_frames, sector_count, sector_size, row_count, row_size, block_size}
 use Rattle.layout.specs.Sectors.{code_of, half_of, sector_part}
@@ -58,22 +56,20 @@ permitted_stream b cs = run_stream (b ∷ []) cs
 
 -- ---- reading
 
--- what the Code Word of byte i of a stream is read as, with the half word after it
-abbrev pub reading_at : List ℕ → ℕ → Reading
+-- what the Code Word of byte i of a stream is read as, with the half word after it: a byte, or none where it is unknown
+abbrev pub reading_at : List ℕ → ℕ → Option ℕ
 reading_at xs i = read_word (half_at xs (half_of i)) (half_at xs (half_of i + 1))
 
 -- the byte that is read: an unknown word gives byte 0
-abbrev pub reading_byte : Reading → ℕ
-reading_byte (Byte b) = b
-reading_byte Unknown = 0
+abbrev pub reading_byte : Option ℕ → ℕ
+reading_byte r = unwrap_or r 0
 
 unfoldable pub read_at : List ℕ → ℕ → ℕ
 read_at xs i = reading_byte (reading_at xs i)
 
 -- whether the word is unknown
-abbrev pub is_unknown : Reading → Bool
-is_unknown (Byte b) = false
-is_unknown Unknown = true
+abbrev pub is_unknown : Option ℕ → Bool
+is_unknown r = is_none r
 
 unfoldable pub unknown_at : List ℕ → ℕ → Bool
 unknown_at xs i = is_unknown (reading_at xs i)
