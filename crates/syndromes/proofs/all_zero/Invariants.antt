@@ -1,11 +1,8 @@
--- `syndromes::all_zero` meets its contract: the entries before k are 0. Assumes nothing.
+-- `syndromes::all_zero` meets its contract: the entries so far are 0. Assumes nothing.
 use mathlib.Core.Path.{◌≡◌}
-use Prim.Native.Nat.{ℕ, ◌-◌, ◌<◌}
-use lib.ListN.{length, get_or}
+use Prim.Native.Nat.{ℕ, ◌<◌}
+use lib.ListN.{get_or}
 use Rattle.syndromes.proofs.all_zero.Given as goal
 
-abbrev pub invariant-loop-k : goal.invariant-loop-k
-invariant-loop-k l = (i : ℕ) → i < l.k → ◌≡◌ {A = ℕ} (get_or l.syndromes i 0) 0
-
-abbrev pub decreases-loop-k : goal.decreases-loop-k
-decreases-loop-k l = length l.syndromes - l.k
+abbrev pub invariant-loop-sum : goal.invariant-loop-sum
+invariant-loop-sum l = (i : ℕ) → i < l.sum-index → ◌≡◌ {A = ℕ} (get_or l.syndromes i 0) 0
