@@ -1,5 +1,5 @@
--- A SYNC Code at a bit, by what was looked at: too near the end (sync_short), in the capture (sync-within), another second half word (sync_other_end); and a frame by
--- its two codes (frame_by_codes).
+-- A SYNC Code at a bit, by what was looked at: too near the end (sync_short), in the capture (sync-within), another second half word
+-- (sync_other_end).
 -- Assumes nothing.
 use mathlib.Core.Path.{◌≡◌, refl, ap, ap₂}
 use mathlib.Core.Bool.{Bool, false, ◌&&◌, ◌||◌}
@@ -10,8 +10,8 @@ use Rattle.lists.proofs.Test.{and_false}
 use Rattle.annexg.specs.Sync.{is_sync, sync_end}
 use Rattle.octets.specs.Halves.{bits_at}
 use Rattle.channel.specs.Block.{some_from}
-use Rattle.layout.specs.Lengths.{frame_bits, sync_bits}
-use Rattle.framing.specs.Frames.{bit_count, sync_at, frame_at}
+use Rattle.layout.specs.Lengths.{sync_bits}
+use Rattle.framing.specs.Frames.{bit_count, sync_at}
 
 -- the test of two half words for each number
 abbrev pub is_code : ℕ → ℕ → Bool
@@ -25,10 +25,6 @@ module _ (xs : List ℕ) (p : ℕ) where
   pub sync-within : p + sync_bits ≤ bit_count xs → sync_at xs p ≡ is_code (bits_at xs p 16) (bits_at xs (p + 16) 16)
   unfolding sync_at
   sync-within h = ap (λ (b : Bool). b && is_code (bits_at xs p 16) (bits_at xs (p + 16) 16)) (le-leb (p + sync_bits) (bit_count xs) h)
-
-  pub frame_by_codes : (a b : Bool) → a ≡ sync_at xs p → b ≡ sync_at xs (p + frame_bits) → (a && b) ≡ frame_at xs p
-  unfolding frame_at
-  frame_by_codes a b e f = ap₂ ◌&&◌ e f
 
 none-some : (t : ℕ → Bool) (k n : ℕ) → ((i : ℕ) → t i ≡ false) → some_from t k n ≡ false
 none-some t k zero h = refl

@@ -2,35 +2,26 @@
 // SYNC Code are whole bytes long, so that all that is looked at for a bit has its offset in a byte.
 #![tactic(auto)]
 
-ghost use Rattle.std.specs.Prelude.{◌≡◌, ◌+◌, ◌*◌, ◌<◌, ◌≤◌, ◌^◌, length};
-ghost use Rattle.annexg.specs.Read.{table_of};
-ghost use Rattle.annexg.specs.Sync.{is_sync, sync_table};
-ghost use Rattle.wordindex.specs.Inner.{word_index};
+ghost use Rattle.std.specs.Prelude.{◌≡◌, ◌+◌, ◌*◌, ◌<◌, ◌≤◌, ◌^◌, [], length, MatchOption};
+ghost use Rattle.annexg.specs.Sync.{is_sync};
 ghost use Rattle.channel.specs.Block.{some_from};
-ghost use Rattle.layout.specs.Lengths.{frame_bits, frame_bytes, longest_capture};
-ghost use Rattle.framing.specs.Frames.{bit_count, sync_at, frame_at, bytes_of_frame};
+ghost use Rattle.layout.specs.Lengths.{frame_bits, longest_capture};
+ghost use Rattle.framing.specs.Frames.{bit_count, sync_at, frame_at, frames_from, bytes_of_frame};
 ghost use Rattle.framing.specs.Inner.{NextFrame};
 
+use annexg::SyncCodes;
 use layout::{FRAME_BYTES, FRAME_STREAM};
+use wordindex::WordReader;
 
 // Two half words are a SYNC Code of table 4, whatever its number.
-fn any_sync(syncs: &[u16; 32], first: u16, second: u16) -> bool
-    requires { syncs.now ≡ sync_table }
+fn any_sync(syncs: &SyncCodes, first: u16, second: u16) -> bool
     ensures { result ≡ some_from (λ n. is_sync n first second) 0 8 }
 {
-    let mut n: u8 = 0;
-    while n < 8 {
-        if annexg::is_sync(syncs, n, first, second) {
-            return true;
-        }
-        n += 1;
-    }
-    false
+    (0..8).any(|n| syncs.is_sync(n, first, second))
 }
 
 // A full SYNC Code stands at bit 8 · byte + offset. Its second half word, which is the same in all of them, is looked at first: hardly any other bits have it.
-fn sync_at(syncs: &[u16; 32], stream: &[u8], byte: usize, offset: usize) -> bool
-    requires syncs_value { syncs.now ≡ sync_table }
+fn sync_at(syncs: &SyncCodes, stream: &[u8], byte: usize, offset: usize) -> bool
     requires offset_bound { offset < 8 }
     requires byte_bound { byte < 2 ^ 62 }
     ensures { result ≡ sync_at stream.now (8 * byte + offset) }
@@ -39,69 +30,40 @@ fn sync_at(syncs: &[u16; 32], stream: &[u8], byte: usize, offset: usize) -> bool
         return false;
     }
     let second = octets::half_at_bit(stream, byte + 2, offset);
-    if second != 0x0011 {
-        return false;
-    }
-    let first = octets::half_at_bit(stream, byte, offset);
-    any_sync(syncs, first, second)
+    second == 0x0011 && any_sync(syncs, octets::half_at_bit(stream, byte, offset), second)
 }
 
 // A Sync Frame starts at a bit.
-pub fn frame_at(syncs: &[u16; 32], stream: &[u8], at: usize) -> bool
-    requires { syncs.now ≡ sync_table }
+pub fn frame_at(syncs: &SyncCodes, stream: &[u8], at: usize) -> bool
     ensures { result ≡ frame_at stream.now at }
 {
     let byte = at / 8;
     let offset = at % 8;
-    if !sync_at(syncs, stream, byte, offset) {
-        return false;
-    }
-    sync_at(syncs, stream, byte + FRAME_STREAM, offset)
+    sync_at(syncs, stream, byte, offset) && sync_at(syncs, stream, byte + FRAME_STREAM, offset)
 }
 
-// The next bit at which the look takes a frame. Past the end there is none.
-pub fn next_frame(syncs: &[u16; 32], stream: &[u8], from: usize) -> usize
-    requires syncs_value { syncs.now ≡ sync_table }
-    requires stream_len_bound { length stream.now ≤ longest_capture }
-    ensures { NextFrame stream.now from result }
+// The next bit at which the look takes a frame.
+pub fn next_frame(syncs: &SyncCodes, stream: &[u8], from: usize) -> Option<usize>
+    requires { length stream.now ≤ longest_capture }
+    ensures { MatchOption result (frames_from stream.now from ≡ []) (NextFrame stream.now from) }
 {
-    let bits = stream.len() * 8;
-    let mut at = from;
-    while at < bits {
-        if frame_at(syncs, stream, at) {
-            return at;
-        }
-        at += 1;
-    }
-    at
+    (from..stream.len() * 8).find(|&at| frame_at(syncs, stream, at))
 }
 
 // The bytes of the frame that starts at a bit. The last word is read with the first half of the second SYNC Code.
-pub fn read_frame(
-    words: &[u32; 1024],
-    substitutes: &[u32; 352],
-    index: &[u32; 8192],
-    stream: &[u8],
-    at: usize,
-    out: &mut [u8],
-)
-    requires { (words.now ≡ table_of 0)
-        × (substitutes.now ≡ table_of 1)
-        × (index.now ≡ word_index)
-        × (at + frame_bits + 16 ≤ bit_count stream.now)
-        × (length out.old ≡ frame_bytes) }
-    ensures { out.new ≡ bytes_of_frame stream.now at }
+pub fn read_frame(words: &WordReader, stream: &[u8], at: usize) -> [u8; FRAME_BYTES]
+    requires { at + frame_bits + 16 ≤ bit_count stream.now }
+    ensures { result ≡ bytes_of_frame stream.now at }
 {
     let byte = at / 8;
     let offset = at % 8;
-    let mut i: usize = 0;
-    while i < FRAME_BYTES {
+    let mut bytes = [0; FRAME_BYTES];
+    for (i, b) in bytes.iter_mut().enumerate() {
         let place = byte + 4 + 2 * i;
         let word = octets::half_at_bit(stream, place, offset);
         let following = octets::half_at_bit(stream, place + 2, offset);
-        let r = wordindex::read_indexed(words, substitutes, index, word, following);
-        // the byte, or 256 for an unknown word, which gives byte 0
-        out[i] = (r % 256) as u8;
-        i += 1;
+        // an unknown word gives byte 0
+        *b = words.read(word, following).unwrap_or(0);
     }
+    bytes
 }

@@ -19,61 +19,60 @@ pub struct Running {
     pub dsv: u64,
 }
 
-// The table of levels over a byte. The writer's inmost work is the step over a half word: eight bits at a time, by this table.
-pub fn level_table() -> [u8; 256]
-    ensures { result ≡ level_table }
-{
-    table::LEVELS
+// The levels over each byte. The writer's inmost work is the step over a half word: eight bits at a time, by this table.
+#[derive(Clone, Copy)]
+pub struct Levels {
+    table: [u8; 256],
+    ghost table_value: { table ≡ level_table },
 }
 
-// A byte from a level: twice its bits at level ONE, and the level after it. From level ONE each bit is at the other level than from level ZERO.
-fn levels_of(levels: &[u8; 256], level: u8, byte: u8) -> u8
-    requires levels_value { levels.now ≡ level_table }
-    requires level_bound { level < 2 }
-    ensures value { result ≡ byte_levels level byte }
-    ensures upper_bound { result ≤ 17 }
-{
-    let entry = levels[byte as usize];
-    if level == 0 {
-        return entry;
+impl Levels {
+    pub fn new() -> Levels {
+        Levels {
+            table: table::LEVELS,
+        }
     }
-    17 - entry
+
+    // A byte from a level: twice its bits at level ONE, and the level after it. From level ONE each bit is at the other level than from level ZERO.
+    fn over(&self, level: u8, byte: u8) -> u8
+        requires { level < 2 }
+        ensures value { result ≡ byte_levels level byte }
+        ensures upper_bound { result ≤ 17 }
+    {
+        let entry = self.table[usize::from(byte)];
+        if level == 0 { entry } else { 17 - entry }
+    }
 }
 
 impl Running {
     // The step over a half word, first bit highest; the State stays. Of 16 bits those at level ONE count 1 and the others -1.
-    pub fn half(self, levels: &[u8; 256], half: u16) -> Running
-        requires levels_value { levels.now ≡ level_table }
-        requires room { Room self 16 }
+    pub fn half(self, levels: &Levels, half: u16) -> Running
+        requires { Room self 16 }
         ensures { result ≡ running_after self self.state (half ∷ []) }
     {
-        let first = levels_of(levels, self.level, (half / 256) as u8);
-        let second = levels_of(levels, first % 2, (half % 256) as u8);
+        let first = levels.over(self.level, (half / 256) as u8);
+        let second = levels.over(first % 2, (half % 256) as u8);
         Running {
             state: self.state,
             level: second % 2,
-            dsv: self.dsv + 2 * ((first / 2 + second / 2) as u64) - 16,
+            dsv: self.dsv + 2 * u64::from(first / 2 + second / 2) - 16,
         }
     }
 
     // The step over a Code Word, with the next State that the table gives with it.
-    pub fn word(self, levels: &[u8; 256], word: u16, next: u8) -> Running
-        requires levels_value { levels.now ≡ level_table }
-        requires room { Room self 16 }
+    pub fn word(self, levels: &Levels, word: u16, next: u8) -> Running
+        requires { Room self 16 }
         ensures { result ≡ running_after self next (word ∷ []) }
     {
-        let running = self.half(levels, word);
         Running {
             state: next,
-            level: running.level,
-            dsv: running.dsv,
+            ..self.half(levels, word)
         }
     }
 
     // The step over a SYNC Code, by its first half word. After it the State is 1.
-    pub fn sync(self, levels: &[u8; 256], first: u16) -> Running
-        requires levels_value { levels.now ≡ level_table }
-        requires room { Room self 32 }
+    pub fn sync(self, levels: &Levels, first: u16) -> Running
+        requires { Room self 32 }
         ensures { result ≡ running_after self 1 (first ∷ sync_end ∷ []) }
     {
         self.half(levels, first).word(levels, 0x0011, 1)
@@ -84,9 +83,5 @@ impl Running {
 pub fn absolute(dsv: u64) -> u64
     ensures { result ≡ magnitude dsv }
 {
-    if dsv < ZERO_AT {
-        ZERO_AT - dsv
-    } else {
-        dsv - ZERO_AT
-    }
+    dsv.abs_diff(ZERO_AT)
 }

@@ -1,31 +1,20 @@
 -- `framing::frame_at` meets its contract. Assumes nothing.
-use mathlib.Core.Path.{◌≡◌, refl, sym, ap, ◌∙◌}
-use mathlib.Core.Bool.{Bool, true, false, ◌&&◌}
-use mathlib.Core.List.{List}
-use Prim.Native.Nat.{ℕ, ◌+◌, ◌*◌, ◌/◌, ◌%◌}
+use mathlib.Core.Path.{◌≡◌, sym, ap, ◌∙◌}
+use mathlib.Core.Bool.{true, false}
 use native.Mathlib.Omega.{arith}
-use Rattle.layout.specs.Lengths.{frame_bits, frame_stream}
 use Rattle.framing.specs.Frames.{sync_at, frame_at}
-use Rattle.framing.proofs.Codes.{frame_by_codes}
 use Rattle.framing.proofs.frame_at.Goals as goal
 
--- the two codes, as they were looked for
-module _ (xs : List ℕ) (at : ℕ) (a : Bool) (first : a ≡ sync_at xs (8 * (at / 8) + at % 8)) where
-  first_is : a ≡ sync_at xs at
-  first_is = first ∙ ap (sync_at xs) (omega arith)
+pub returns-then-sync_at : goal.returns-then-sync_at
+unfolding frame_at
+returns-then-sync_at c =
+    let xs = c.args.stream.now in
+    let first : sync_at xs c.args.at ≡ true = ap (sync_at xs) (omega arith) ∙ sym c.sync_at.ensures ∙ c.if-sync_at.true in
+    rw first (c.sync_at-then-sync_at.ensures ∙ ap (sync_at xs) (omega arith))
 
-  not_first : a ≡ false → false ≡ frame_at xs at
-  not_first e = ap (λ (b : Bool). b && sync_at xs (at + frame_bits)) (sym e) ∙ frame_by_codes xs at a (sync_at xs (at + frame_bits)) first_is refl
-
-  by_second : a ≡ true → (b : Bool) → b ≡ sync_at xs (8 * (at / 8 + frame_stream) + at % 8) → b ≡ frame_at xs at
-  by_second e b second = ap (λ (x : Bool). x && b) (sym e) ∙ frame_by_codes xs at a b first_is (second ∙ ap (sync_at xs) (omega arith))
-
-pub returns-then-not-sync_at : goal.returns-then-not-sync_at
-returns-then-not-sync_at c =
-    let args = c.args in
-    not_first args.stream.now args.at _ c.sync_at.ensures c.if-not-sync_at.true
-
-pub returns : goal.returns
-returns c =
-    let args = c.args in
-    by_second args.stream.now args.at _ c.sync_at.ensures c.if-not-sync_at.false _ c.sync_at-2.ensures
+pub returns-else-sync_at : goal.returns-else-sync_at
+unfolding frame_at
+returns-else-sync_at c =
+    let xs = c.args.stream.now in
+    let first : sync_at xs c.args.at ≡ false = ap (sync_at xs) (omega arith) ∙ sym c.sync_at.ensures ∙ c.if-sync_at.false in
+    rw first c.if-sync_at.false

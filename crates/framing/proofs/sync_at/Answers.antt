@@ -4,6 +4,7 @@ use mathlib.Core.Bool.{Bool, false}
 use mathlib.Core.List.{List}
 use Prim.Native.Nat.{ℕ, ◌+◌, ◌*◌, ◌≤◌}
 use native.Mathlib.Omega.{arith}
+use borrow.Author.Tests.{ne_eqb}
 use Rattle.annexg.specs.Sync.{sync_end}
 use Rattle.octets.specs.Halves.{bits_at}
 use Rattle.layout.specs.Lengths.{sync_bits}
@@ -27,12 +28,12 @@ module _ (xs : List ℕ) (byte offset : ℕ) (fits : 8 * byte + offset + sync_bi
   by_code : (first : ℕ) → first ≡ bits_at xs (8 * byte + offset) 16 → (r : Bool) → r ≡ is_code first second → r ≡ sync_at xs (8 * byte + offset)
   by_code first e r f = f ∙ ap₂ is_code e end_is ∙ sym (sync-within xs (8 * byte + offset) fits)
 
-pub returns-then-second-ne17 : goal.returns-then-second-ne17
-returns-then-second-ne17 c =
+pub returns-then-second-eq17 : goal.returns-then-second-eq17
+returns-then-second-eq17 c =
     let args = c.args in
-    other args.stream.now args.byte args.offset (omega arith) _ c.half_at_bit-second.ensures c.if-second-ne17.true
+    by_code args.stream.now args.byte args.offset (omega arith) _ c.half_at_bit-second.ensures _ c.half_at_bit.ensures _ c.any_sync.ensures
 
-pub returns : goal.returns
-returns c =
+pub returns-else-second-eq17 : goal.returns-else-second-eq17
+returns-else-second-eq17 c =
     let args = c.args in
-    by_code args.stream.now args.byte args.offset (omega arith) _ c.half_at_bit-second.ensures _ c.half_at_bit-first.ensures _ c.any_sync.ensures
+    ne_eqb _ _ c.if-second-eq17.false ∙ other args.stream.now args.byte args.offset (omega arith) _ c.half_at_bit-second.ensures c.if-second-eq17.false

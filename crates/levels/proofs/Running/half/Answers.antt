@@ -5,6 +5,5 @@ use Rattle.levels.proofs.Running.half.Goals as goal
 
 pub returns : goal.returns
 returns c =
-    let room = c.requires.room in
-    half_by_bytes c.args.self c.args.half _ _ room.level room.low
-    c.levels_of-first.ensures.value c.levels_of-second.ensures.value
+    rw c.from.ensures
+    (half_by_bytes c.args.self c.args.half _ _ c.requires.level c.requires.low c.over-first.ensures.value c.over-second.ensures.value)

@@ -11,11 +11,7 @@ use Rattle.levels.proofs.Running.sync.Goals as goal
 
 pub word-requires : goal.word-requires
 word-requires c =
-    let room = room_after _ _ 16 (_ ∷ []) c.requires.room in
-    record {
-      levels_value = c.requires.levels_value;
-      room = subst (λ (r : Running). Room r 16) (sym c.half.ensures) room;
-    }
+    subst (λ (r : Running). Room r 16) (sym c.half.ensures) (room_after _ _ 16 (_ ∷ []) c.requires)
 
 pub returns : goal.returns
 returns c =
