@@ -6,18 +6,19 @@
 --   stream_front, stream_rest, streams_overlap       the same of streams of bytes
 -- Assumes nothing.
 use mathlib.Core.Path.{◌≡◌, refl, sym, ap, ap₂, subst, ◌∙◌}
-use mathlib.Core.Bool.{Bool, true, false, not, ◌&&◌, ◌||◌}
+use mathlib.Core.Bool.{Bool, true, false, ◌&&◌, ◌||◌}
 use mathlib.Core.List.{List, [], ◌∷◌, ◌++◌, append_assoc}
 use Prim.Native.Nat.{ℕ, zero, suc, ◌+◌, ◌*◌, ◌-◌, ◌%◌, ◌<◌}
 use native.Mathlib.Omega.{arith}
 use lib.Dec.{T, eqb, eqb→eq}
 use lib.ListN.{length, take}
+use Rattle.std.specs.Prelude.{Option, Some, None}
 use Rattle.lists.proofs.Test.{and_left, and_right, and_both}
 use Rattle.annexg.specs.Sync.{sync_end, code_for, is_sync}
 use Rattle.annexg.specs.ZeroRuns.{bits_of, inside}
 use Rattle.octets.specs.Halves.{half_at}
 use Rattle.layout.specs.Lengths.{frame_stream, frame_bits, closing_size}
-use Rattle.channel.specs.Bits.{bits_bytes, block_zero_run_fits, zero_runs_from, zero_runs_hold}
+use Rattle.channel.specs.Bits.{bits_bytes, one_fits, zero_runs_from, zero_runs_hold}
 
 -- ---- the bits of bytes
 
@@ -63,77 +64,77 @@ sync_has_one n xs t =
 
 -- ---- a front
 
-front_holds : (head tail : List ℕ) (seen : Bool) (p r : ℕ) → T (zero_runs_from seen p r (head ++ tail)) → T (zero_runs_from seen p r head)
+front_holds : (head tail : List ℕ) (last : Option ℕ) (p : ℕ) → T (zero_runs_from last p (head ++ tail)) → T (zero_runs_from last p head)
 unfolding zero_runs_from
-front_holds [] tail seen p r t = tt
-front_holds (zero ∷ head) tail seen p r t = front_holds head tail seen (suc p) (suc r) t
-front_holds (suc x ∷ head) tail seen p r t =
-    let fits = not seen || block_zero_run_fits (p - suc r) r in
-    let more = zero_runs_from true (suc p) 0 (head ++ tail) in
-    and_both fits (zero_runs_from true (suc p) 0 head) (and_left fits more t) (front_holds head tail true (suc p) 0 (and_right fits more t))
+front_holds [] tail last p t = tt
+front_holds (zero ∷ head) tail last p t = front_holds head tail last (suc p) t
+front_holds (suc x ∷ head) tail last p t =
+    let more = zero_runs_from (Some p) (suc p) (head ++ tail) in
+    and_both (one_fits last p) (zero_runs_from (Some p) (suc p) head) (and_left (one_fits last p) more t)
+    (front_holds head tail (Some p) (suc p) (and_right (one_fits last p) more t))
 
--- ---- a rest, for which no ONE was seen and no matter how many ZEROs
+-- ---- a rest, before which no ONE was seen
 
-unseen_holds : (bs : List ℕ) (seen : Bool) (p r q : ℕ) → T (zero_runs_from seen p r bs) → T (zero_runs_from false p q bs)
+unseen_holds : (bs : List ℕ) (last : Option ℕ) (p : ℕ) → T (zero_runs_from last p bs) → T (zero_runs_from None p bs)
 unfolding zero_runs_from
-unseen_holds [] seen p r q t = tt
-unseen_holds (zero ∷ bs) seen p r q t = unseen_holds bs seen (suc p) (suc r) (suc q) t
-unseen_holds (suc x ∷ bs) seen p r q t = and_right (not seen || block_zero_run_fits (p - suc r) r) (zero_runs_from true (suc p) 0 bs) t
+unseen_holds [] last p t = tt
+unseen_holds (zero ∷ bs) last p t = unseen_holds bs last (suc p) t
+unseen_holds (suc x ∷ bs) last p t = and_right (one_fits last p) (zero_runs_from (Some p) (suc p) bs) t
 
-rest_holds : (head tail : List ℕ) (seen : Bool) (p r at : ℕ) → at ≡ p + length head → T (zero_runs_from seen p r (head ++ tail)) → T (zero_runs_from false at 0 tail)
+rest_holds : (head tail : List ℕ) (last : Option ℕ) (p at : ℕ) → at ≡ p + length head → T (zero_runs_from last p (head ++ tail)) → T (zero_runs_from None at tail)
 unfolding zero_runs_from
-rest_holds [] tail seen p r at e t =
+rest_holds [] tail last p at e t =
     let same : p ≡ at = omega arith in
-    unseen_holds tail seen at r 0 (subst (λ (i : ℕ). T (zero_runs_from seen i r tail)) same t)
-rest_holds (zero ∷ head) tail seen p r at e t = rest_holds head tail seen (suc p) (suc r) at (omega arith) t
-rest_holds (suc x ∷ head) tail seen p r at e t =
-    rest_holds head tail true (suc p) 0 at (omega arith) (and_right (not seen || block_zero_run_fits (p - suc r) r) (zero_runs_from true (suc p) 0 (head ++ tail)) t)
+    unseen_holds tail last at (subst (λ (i : ℕ). T (zero_runs_from last i tail)) same t)
+rest_holds (zero ∷ head) tail last p at e t = rest_holds head tail last (suc p) at (omega arith) t
+rest_holds (suc x ∷ head) tail last p at e t =
+    rest_holds head tail (Some p) (suc p) at (omega arith) (and_right (one_fits last p) (zero_runs_from (Some p) (suc p) (head ++ tail)) t)
 
 -- ---- two parts that overlap in a ONE: after it only what comes behind it matters
 
-after_one : (seam tail : List ℕ) (seen : Bool) (p r q : ℕ) → T (has_one seam) → T (zero_runs_from seen p r seam) → T (zero_runs_from false p q (seam ++ tail))
-    → T (zero_runs_from seen p r (seam ++ tail))
+after_one : (seam tail : List ℕ) (last : Option ℕ) (p : ℕ) → T (has_one seam) → T (zero_runs_from last p seam) → T (zero_runs_from None p (seam ++ tail))
+    → T (zero_runs_from last p (seam ++ tail))
 unfolding zero_runs_from
-after_one [] tail seen p r q o t u = absurd o
-after_one (zero ∷ seam) tail seen p r q o t u = after_one seam tail seen (suc p) (suc r) (suc q) o t u
-after_one (suc x ∷ seam) tail seen p r q o t u =
-    let fits = not seen || block_zero_run_fits (p - suc r) r in
-    and_both fits (zero_runs_from true (suc p) 0 (seam ++ tail)) (and_left fits (zero_runs_from true (suc p) 0 seam) t) u
+after_one [] tail last p o t u = absurd o
+after_one (zero ∷ seam) tail last p o t u = after_one seam tail last (suc p) o t u
+after_one (suc x ∷ seam) tail last p o t u =
+    and_both (one_fits last p) (zero_runs_from (Some p) (suc p) (seam ++ tail)) (and_left (one_fits last p) (zero_runs_from (Some p) (suc p) seam) t) u
 
-overlap_holds : (head seam tail : List ℕ) (seen : Bool) (p r at : ℕ) → at ≡ p + length head → T (has_one seam) → T (zero_runs_from seen p r (head ++ seam))
-    → T (zero_runs_from false at 0 (seam ++ tail)) → T (zero_runs_from seen p r (head ++ (seam ++ tail)))
+overlap_holds : (head seam tail : List ℕ) (last : Option ℕ) (p at : ℕ) → at ≡ p + length head → T (has_one seam) → T (zero_runs_from last p (head ++ seam))
+    → T (zero_runs_from None at (seam ++ tail)) → T (zero_runs_from last p (head ++ (seam ++ tail)))
 unfolding zero_runs_from
-overlap_holds [] seam tail seen p r at e o t u =
+overlap_holds [] seam tail last p at e o t u =
     let same : at ≡ p = omega arith in
-    after_one seam tail seen p r 0 o t (subst (λ (i : ℕ). T (zero_runs_from false i 0 (seam ++ tail))) same u)
-overlap_holds (zero ∷ head) seam tail seen p r at e o t u = overlap_holds head seam tail seen (suc p) (suc r) at (omega arith) o t u
-overlap_holds (suc x ∷ head) seam tail seen p r at e o t u =
-    let fits = not seen || block_zero_run_fits (p - suc r) r in
-    let first = zero_runs_from true (suc p) 0 (head ++ seam) in
-    and_both fits (zero_runs_from true (suc p) 0 (head ++ (seam ++ tail))) (and_left fits first t)
-    (overlap_holds head seam tail true (suc p) 0 at (omega arith) o (and_right fits first t) u)
+    after_one seam tail last p o t (subst (λ (i : ℕ). T (zero_runs_from None i (seam ++ tail))) same u)
+overlap_holds (zero ∷ head) seam tail last p at e o t u = overlap_holds head seam tail last (suc p) at (omega arith) o t u
+overlap_holds (suc x ∷ head) seam tail last p at e o t u =
+    let first = zero_runs_from (Some p) (suc p) (head ++ seam) in
+    and_both (one_fits last p) (zero_runs_from (Some p) (suc p) (head ++ (seam ++ tail))) (and_left (one_fits last p) first t)
+    (overlap_holds head seam tail (Some p) (suc p) at (omega arith) o (and_right (one_fits last p) first t) u)
 
 -- ---- bits count modulo a frame's
 
--- the last ONE stands r + 1 bits before bit p, and before bit q
-seen_modulo : (bs : List ℕ) (p q r : ℕ) → r < p → r < q → p % frame_bits ≡ q % frame_bits → zero_runs_from true p r bs ≡ zero_runs_from true q r bs
+-- the last ONE stands at bit i before bit p, and as far before bit q at bit j
+seen_modulo :
+    (bs : List ℕ) (p q i j : ℕ) → i < p → j < q → p + j ≡ q + i → i % frame_bits ≡ j % frame_bits → zero_runs_from (Some i) p bs ≡ zero_runs_from (Some j) q bs
 unfolding zero_runs_from
-seen_modulo [] p q r h k e = refl
-seen_modulo (zero ∷ bs) p q r h k e = seen_modulo bs (suc p) (suc q) (suc r) (omega arith) (omega arith) (omega arith)
-seen_modulo (suc x ∷ bs) p q r h k e =
-    let one : (p - suc r) % frame_bits ≡ (q - suc r) % frame_bits = omega arith in
-    ap₂ ◌&&◌ (ap (λ (i : ℕ). inside 2 10 r || (eqb r 13 && eqb i 13)) one) (seen_modulo bs (suc p) (suc q) 0 (omega arith) (omega arith) (omega arith))
+seen_modulo [] p q i j h k d e = refl
+seen_modulo (zero ∷ bs) p q i j h k d e = seen_modulo bs (suc p) (suc q) i j (omega arith) (omega arith) (omega arith) e
+seen_modulo (suc x ∷ bs) p q i j h k d e =
+    let far : p - suc i ≡ q - suc j = omega arith in
+    ap₂ ◌&&◌ (ap₂ (λ (n one : ℕ). inside 2 10 n || (eqb n 13 && eqb one 13)) far e)
+    (seen_modulo bs (suc p) (suc q) p q (omega arith) (omega arith) (omega arith) (omega arith))
 
-unseen_modulo : (bs : List ℕ) (p q r : ℕ) → p % frame_bits ≡ q % frame_bits → zero_runs_from false p r bs ≡ zero_runs_from false q r bs
+unseen_modulo : (bs : List ℕ) (p q : ℕ) → p % frame_bits ≡ q % frame_bits → zero_runs_from None p bs ≡ zero_runs_from None q bs
 unfolding zero_runs_from
-unseen_modulo [] p q r e = refl
-unseen_modulo (zero ∷ bs) p q r e = unseen_modulo bs (suc p) (suc q) (suc r) (omega arith)
-unseen_modulo (suc x ∷ bs) p q r e = seen_modulo bs (suc p) (suc q) 0 (omega arith) (omega arith) (omega arith)
+unseen_modulo [] p q e = refl
+unseen_modulo (zero ∷ bs) p q e = unseen_modulo bs (suc p) (suc q) (omega arith)
+unseen_modulo (suc x ∷ bs) p q e = seen_modulo bs (suc p) (suc q) p q (omega arith) (omega arith) (omega arith) e
 
 -- ---- streams, the first of m Sync Frames
 
 pub stream_front : (head tail : List ℕ) → T (zero_runs_hold (head ++ tail)) → T (zero_runs_hold head)
-stream_front head tail t = front_holds (bits_bytes head) (bits_bytes tail) false 0 0 (subst (λ (l : List ℕ). T (zero_runs_from false 0 0 l)) (bits-append head tail) t)
+stream_front head tail t = front_holds (bits_bytes head) (bits_bytes tail) None 0 (subst (λ (l : List ℕ). T (zero_runs_from None 0 l)) (bits-append head tail) t)
 
 module _ (head : List ℕ) (m : ℕ) (whole : length head ≡ frame_stream * m) where
   begins : frame_bits * m ≡ 0 + length (bits_bytes head)
@@ -141,17 +142,17 @@ module _ (head : List ℕ) (m : ℕ) (whole : length head ≡ frame_stream * m) 
 
   pub stream_rest : (tail : List ℕ) → T (zero_runs_hold (head ++ tail)) → T (zero_runs_hold tail)
   stream_rest tail t =
-      subst T (unseen_modulo (bits_bytes tail) (frame_bits * m) 0 0 (omega arith))
-      (rest_holds (bits_bytes head) (bits_bytes tail) false 0 0 (frame_bits * m) begins
-      (subst (λ (l : List ℕ). T (zero_runs_from false 0 0 l)) (bits-append head tail) t))
+      subst T (unseen_modulo (bits_bytes tail) (frame_bits * m) 0 (omega arith))
+      (rest_holds (bits_bytes head) (bits_bytes tail) None 0 (frame_bits * m) begins
+      (subst (λ (l : List ℕ). T (zero_runs_from None 0 l)) (bits-append head tail) t))
 
   pub streams_overlap : (seam tail : List ℕ) → T (has_one (bits_bytes seam)) → T (zero_runs_hold (head ++ seam)) → T (zero_runs_hold (seam ++ tail))
       → T (zero_runs_hold (head ++ (seam ++ tail)))
   streams_overlap seam tail o t u =
       let laid : bits_bytes (head ++ (seam ++ tail)) ≡ bits_bytes head ++ (bits_bytes seam ++ bits_bytes tail) =
       bits-append head (seam ++ tail) ∙ ap (λ (l : List ℕ). bits_bytes head ++ l) (bits-append seam tail) in
-      let second : T (zero_runs_from false 0 0 (bits_bytes seam ++ bits_bytes tail)) = subst (λ (l : List ℕ). T (zero_runs_from false 0 0 l)) (bits-append seam tail) u in
-      subst (λ (l : List ℕ). T (zero_runs_from false 0 0 l)) (sym laid)
-      (overlap_holds (bits_bytes head) (bits_bytes seam) (bits_bytes tail) false 0 0 (frame_bits * m) begins o
-      (subst (λ (l : List ℕ). T (zero_runs_from false 0 0 l)) (bits-append head seam) t)
-      (subst T (unseen_modulo (bits_bytes seam ++ bits_bytes tail) 0 (frame_bits * m) 0 (omega arith)) second))
+      let second : T (zero_runs_from None 0 (bits_bytes seam ++ bits_bytes tail)) = subst (λ (l : List ℕ). T (zero_runs_from None 0 l)) (bits-append seam tail) u in
+      subst (λ (l : List ℕ). T (zero_runs_from None 0 l)) (sym laid)
+      (overlap_holds (bits_bytes head) (bits_bytes seam) (bits_bytes tail) None 0 (frame_bits * m) begins o
+      (subst (λ (l : List ℕ). T (zero_runs_from None 0 l)) (bits-append head seam) t)
+      (subst T (unseen_modulo (bits_bytes seam ++ bits_bytes tail) 0 (frame_bits * m) (omega arith)) second))

@@ -1,6 +1,6 @@
--- The bits of a stream (bits_all, bits_bytes), and the runs of ZEROs that it may have (sync_half, zero_run_fits, block_zero_run_fits, zero_runs_from, zero_runs_hold).
+-- The bits of a stream (bits_all, bits_bytes), and the runs of ZEROs that it may have (sync_half, zero_run_fits, block_zero_run_fits, one_fits, zero_runs_from, zero_runs_hold).
 -- Assumes nothing.
-use Rattle.std.specs.Prelude.{Bool, true, false, not, ◌&&◌, ◌||◌, List, [], ◌∷◌, ◌++◌, ℕ, zero, suc, ◌-◌, ◌/◌, ◌%◌, eqb}
+use Rattle.std.specs.Prelude.{Bool, true, false, ◌&&◌, ◌||◌, List, [], ◌∷◌, ◌++◌, ℕ, zero, suc, ◌-◌, ◌/◌, ◌%◌, eqb, Option, Some, None}
 use Rattle.annexg.specs.ZeroRuns.{bits_of, inside}
 use Rattle.layout.specs.Lengths.{frame_bits}
 use Rattle.channel.specs.Channel.{Item, sync, byte}
@@ -32,12 +32,17 @@ zero_run_fits is i n = inside 2 10 n || (eqb n 13 && (eqb (i % 16) 13 && sync_ha
 abbrev pub block_zero_run_fits : ℕ → ℕ → Bool
 block_zero_run_fits i n = inside 2 10 n || (eqb n 13 && eqb (i % frame_bits) 13)
 
--- the bits from bit p on, where r ZEROs have passed since the last ONE, if one was seen: each zero run between two ONEs is one that a block may have
-unfoldable pub zero_runs_from : Bool → ℕ → ℕ → List ℕ → Bool
-zero_runs_from seen p r [] = true
-zero_runs_from seen p r (zero ∷ bs) = zero_runs_from seen (suc p) (suc r) bs
-zero_runs_from seen p r (suc x ∷ bs) = (not seen || block_zero_run_fits (p - suc r) r) && zero_runs_from true (suc p) 0 bs
+-- the ONE at bit p may stand after the last one before it, at bit i, or is the first
+abbrev pub one_fits : Option ℕ → ℕ → Bool
+one_fits None p = true
+one_fits (Some i) p = block_zero_run_fits i (p - suc i)
+
+-- the bits from bit p on, where the last ONE stands at a bit before it, if there is one: each zero run between two ONEs is one that a block may have
+unfoldable pub zero_runs_from : Option ℕ → ℕ → List ℕ → Bool
+zero_runs_from last p [] = true
+zero_runs_from last p (zero ∷ bs) = zero_runs_from last (suc p) bs
+zero_runs_from last p (suc x ∷ bs) = one_fits last p && zero_runs_from (Some p) (suc p) bs
 
 -- the zero runs of a stream of bytes that starts with a Sync Frame
 abbrev pub zero_runs_hold : List ℕ → Bool
-zero_runs_hold xs = zero_runs_from false 0 0 (bits_bytes xs)
+zero_runs_hold xs = zero_runs_from None 0 (bits_bytes xs)

@@ -45,14 +45,16 @@ pair (a ∷ b ∷ c ∷ e) l = absurd (omega arith)
 
 -- what `head` returns
 pub head_built :
-    (info n a b c : ℕ) (e : List ℕ) → a ≡ n / 65536 % 256 → b ≡ n / 256 % 256 → c ≡ n % 256 → e ≡ parity 2 (info ∷ a ∷ b ∷ c ∷ [])
-    → info ∷ a ∷ b ∷ c ∷ get_or e 0 0 ∷ get_or e 1 0 ∷ 0 ∷ 0 ∷ 0 ∷ 0 ∷ 0 ∷ 0 ∷ [] ≡ head_of info n
+    (info n : ℕ) (b e : List ℕ) → b ≡ n / 16777216 % 256 ∷ n / 65536 % 256 ∷ n / 256 % 256 ∷ n % 256 ∷ []
+    → e ≡ parity 2 (info ∷ get_or b 1 0 ∷ get_or b 2 0 ∷ get_or b 3 0 ∷ [])
+    → info ∷ get_or b 1 0 ∷ get_or b 2 0 ∷ get_or b 3 0 ∷ get_or e 0 0 ∷ get_or e 1 0 ∷ 0 ∷ 0 ∷ 0 ∷ 0 ∷ 0 ∷ 0 ∷ [] ≡ head_of info n
 unfolding head_of id_of
-head_built info n a b c e p q r s =
-    let i : id_of info n ≡ info ∷ a ∷ b ∷ c ∷ [] = cc in
-    let k : ied_of (id_of info n) ≡ get_or e 0 0 ∷ get_or e 1 0 ∷ [] =
-    ap (parity 2) i ∙ sym s ∙ pair e (ap length s ∙ ied_length (info ∷ a ∷ b ∷ c ∷ [])) in
-    sym (ap₂ (λ (x y : List ℕ). x ++ (y ++ cpr_mai)) i k)
+head_built info n b e p q =
+    let id : info ∷ get_or b 1 0 ∷ get_or b 2 0 ∷ get_or b 3 0 ∷ [] ≡ id_of info n =
+    ap (λ (xs : List ℕ). info ∷ get_or xs 1 0 ∷ get_or xs 2 0 ∷ get_or xs 3 0 ∷ []) p in
+    let ied : get_or e 0 0 ∷ get_or e 1 0 ∷ [] ≡ ied_of (id_of info n) =
+    sym (pair e (ap length q ∙ ied_length (info ∷ get_or b 1 0 ∷ get_or b 2 0 ∷ get_or b 3 0 ∷ []))) ∙ q ∙ ap (parity 2) id in
+    ap₂ (λ (x y : List ℕ). x ++ (y ++ cpr_mai)) id ied
 
 -- ---- the frame over 2,048 main data bytes d
 

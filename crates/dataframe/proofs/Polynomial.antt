@@ -2,13 +2,11 @@
 -- frame that was read passes check 6 where it is one, and only there (check_multiple, multiple_checked).
 -- Assumes nothing.
 use mathlib.Core.Path.{◌≡◌, sym, ap, ◌∙◌, subst}
-use mathlib.Core.Bool.{true, false≢true}
+use mathlib.Core.Bool.{true}
 use mathlib.Core.List.{List, ◌++◌}
-use mathlib.Core.Logic.{dite}
 use Prim.Native.Nat.{ℕ, ◌+◌, ◌-◌, ◌<◌}
-use native.Mathlib.Decide.{ℕ_discrete}
 use native.Mathlib.Omega.{arith}
-use lib.ListN.{length, get_or, take, drop, length-drop, take-append-drop}
+use lib.ListN.{length, take, drop, length-drop, take-append-drop}
 use lib.Seq.{ext_get_or, get_or-drop}
 use Rattle.lists.specs.Bytes.{Bytes}
 use Rattle.lists.proofs.Bytes.{append-bytes, take-bytes, drop-bytes}
@@ -21,9 +19,9 @@ use Rattle.edc.proofs.Polynomial.{edc_multiple, edc_unique}
 use Rattle.scrambling.specs.Scrambling.{scrambled_at}
 use Rattle.scrambling.proofs.Scrambled.{scrambled_end, scrambled-bytes}
 use Rattle.dataframe.specs.Frame.{head_of, data_frame}
-use Rattle.dataframe.specs.Checks.{number_of, unscrambled, agree, edc_passes}
+use Rattle.dataframe.specs.Checks.{number_of, unscrambled, edc_passes}
 use Rattle.dataframe.proofs.Framed.{head_bytes}
-use Rattle.dataframe.proofs.Checked.{agree_same, agree-not}
+use Rattle.dataframe.proofs.Checked.{agree_same, agree_equal}
 
 -- ---- a frame that was built
 
@@ -32,11 +30,6 @@ unfolding data_frame
 frame_multiple d info n hd hi = edc_multiple (head_of info n ++ d) (append-bytes (head_of info n) d (head_bytes info n hi) hd)
 
 -- ---- a frame that was read
-
-agree_equal : (xs ys : List ℕ) → length xs ≡ length ys → agree xs ys ≡ true → xs ≡ ys
-agree_equal xs ys l a =
-    ext_get_or 0 xs ys l
-    (λ i h. dite (ℕ_discrete (get_or xs i 0) (get_or ys i 0)) (λ e. e) (λ n. absurd (false≢true (sym (agree-not xs ys i l h n) ∙ a))))
 
 module _ (f : List ℕ) (len : length f ≡ frame_size) (bytes : Bytes f) where
   abbrev front : List ℕ

@@ -9,8 +9,6 @@ use Rattle.scrambling.specs.Scrambling.{scrambled}
 use Rattle.layout.specs.Lengths.{head_size, frame_main_size, edc_place, main_size}
 use Rattle.layout.specs.Rows.{frame_of}
 use Rattle.dataframe.specs.Frame.{is_permitted, ied_of}
-use Rattle.dataframe.specs.declared.FrameCheck.{FrameCheck}
-use Rattle.dataframe.specs.declared.FrameCheck.TheVariants.{Passed, IedDiffers, IdWrong, EdcDiffers}
 
 -- the Sector Information byte, and the sector number in 24 bits
 abbrev pub info_of : List ℕ → ℕ
@@ -51,10 +49,3 @@ edc_passes f = agree (drop edc_place f) (edc_of (take edc_place (unscrambled f))
 -- the lowest number that applies to frame k, or 0 where none does
 unfoldable pub frame_refusal : ℕ → ℕ → ℕ → List ℕ → ℕ
 frame_refusal first info k f = cond (ied_passes f) (cond (id_passes first info k f) (cond (edc_passes f) 0 6) 5) 4
-
--- document 01's number for each answer of the check
-abbrev pub check_number : FrameCheck → ℕ
-check_number Passed = 0
-check_number IedDiffers = 4
-check_number IdWrong = 5
-check_number EdcDiffers = 6

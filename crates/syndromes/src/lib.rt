@@ -4,39 +4,30 @@
 
 ghost use Rattle.std.specs.Prelude.{◌≡◌, ◌≤◌, length, take};
 ghost use Rattle.lists.specs.Fill.{tabulate};
-ghost use Rattle.field.specs.Inner.{LogTable};
 ghost use Rattle.codes.specs.Word.{value_at, syndrome, all_zero};
 ghost use Rattle.division.specs.Inner.{unpacked};
 
 use division::Remainder;
+use field::Logs;
 
 // The value of a word at x.
-fn value_of(logs: &[u8; 768], word: &[u8], x: u8) -> u8
-    requires { LogTable logs.now }
+fn value_of(logs: &Logs, word: &[u8], x: u8) -> u8
     ensures { result ≡ value_at word.now x }
 {
     let mut v: u8 = 0;
-    let mut i: usize = 0;
-    while i < word.len() {
-        v = field::product(logs, v, x) ^ word[i];
-        i += 1;
+    for b in word {
+        v = logs.product(v, x) ^ *b;
     }
     v
 }
 
 // The syndromes of a word, as many as `out` has places.
-pub fn syndromes_into(logs: &[u8; 768], word: &[u8], out: &mut [u8])
-    requires log_table { LogTable logs.now }
-    requires out_len_bound { length out.old ≤ 255 }
+pub fn syndromes_into(logs: &Logs, word: &[u8], out: &mut [u8])
+    requires { length out.old ≤ 255 }
     ensures { out.new ≡ tabulate (syndrome word.now) (length out.old) }
 {
-    let mut i: usize = 0;
-    let mut k: u8 = 0;
-    while i < out.len() {
-        let x = field::alpha_power(logs, k);
-        out[i] = value_of(logs, word, x);
-        i += 1;
-        k += 1;
+    for (k, sum) in out.iter_mut().enumerate() {
+        *sum = value_of(logs, word, logs.alpha_power(k as u8));
     }
 }
 
@@ -44,40 +35,18 @@ pub fn syndromes_into(logs: &[u8; 768], word: &[u8], out: &mut [u8])
 pub fn all_zero(syndromes: &[u8]) -> bool
     ensures { result ≡ all_zero syndromes.now }
 {
-    let mut k: usize = 0;
-    while k < syndromes.len() {
-        if syndromes[k] != 0 {
-            return false;
-        }
-        k += 1;
-    }
-    true
+    syndromes.iter().all(|sum| *sum == 0)
 }
 
-// The syndromes of what is left of a word by the generator, which are the word's own: ten, and sixteen. Where nothing is
-// left they are zeros, at once.
-pub fn syndromes10(logs: &[u8; 768], left: Remainder) -> [u8; 10]
-    requires { LogTable logs.now }
-    ensures { result ≡ tabulate (syndrome (take 10 (unpacked left.high left.low))) 10 }
+// The syndromes of what is left of a word by the generator with P roots, which are the word's own. Where nothing is left they are zeros, at once.
+pub fn syndromes<const P: usize>(logs: &Logs, left: Remainder) -> [u8; P]
+    requires { P ≤ 16 }
+    ensures { result ≡ tabulate (syndrome (take P (unpacked left))) P }
 {
-    let mut out = [0u8; 10];
-    if division::is_zero(left) {
+    let mut out = [0u8; P];
+    if left.is_zero() {
         return out;
     }
-    let bytes = parity::unpack10(left.high, left.low);
-    syndromes_into(logs, &bytes, &mut out);
-    out
-}
-
-pub fn syndromes16(logs: &[u8; 768], left: Remainder) -> [u8; 16]
-    requires { LogTable logs.now }
-    ensures { result ≡ tabulate (syndrome (take 16 (unpacked left.high left.low))) 16 }
-{
-    let mut out = [0u8; 16];
-    if division::is_zero(left) {
-        return out;
-    }
-    let bytes = parity::unpack(left.high, left.low);
-    syndromes_into(logs, &bytes, &mut out);
+    syndromes_into(logs, &parity::unpack::<P>(left), &mut out);
     out
 }

@@ -2,15 +2,16 @@
 -- of a run passes it (run_zero_runs_hold).
 -- Assumes nothing.
 use mathlib.Core.Path.{◌≡◌, refl, sym, ap, subst}
-use mathlib.Core.Bool.{Bool, true, false, not, ◌||◌}
+use mathlib.Core.Bool.{Bool}
 use mathlib.Core.List.{List, [], ◌∷◌, ◌++◌}
 use Prim.Native.Nat.{ℕ, zero, suc, ◌+◌, ◌-◌, ◌<◌}
 use native.Mathlib.Nat.{zero-add}
 use native.Mathlib.Omega.{arith}
 use lib.Dec.{T}
 use lib.ListN.{length, replicate}
+use Rattle.std.specs.Prelude.{Option, Some, None}
 use Rattle.lists.proofs.Test.{and_left, and_right, and_both}
-use Rattle.channel.specs.Bits.{bits_bytes, block_zero_run_fits, zero_runs_from, zero_runs_hold}
+use Rattle.channel.specs.Bits.{bits_bytes, block_zero_run_fits, one_fits, zero_runs_from, zero_runs_hold}
 use Rattle.channel.specs.Block.{Blocks, permitted_run, run_stream}
 use Rattle.channel.proofs.RunZeroRuns.{run_zero_runs}
 
@@ -23,39 +24,33 @@ moved_zero_run_fits k e t = subst (λ (x : ℕ). T (block_zero_run_fits x k)) e 
 
 -- ---- what passes has only such zero runs
 
-past_zeros : (s : Bool) (n p r : ℕ) (bs : List ℕ) → T (zero_runs_from s p r (replicate n 0 ++ bs)) → T (zero_runs_from s (p + n) (r + n) bs)
+past_zeros : (last : Option ℕ) (n p : ℕ) (bs : List ℕ) → T (zero_runs_from last p (replicate n 0 ++ bs)) → T (zero_runs_from last (p + n) bs)
 unfolding zero_runs_from
-past_zeros s zero p r bs t =
-    let e : p + 0 ≡ p = omega arith in
-    let f : r + 0 ≡ r = omega arith in
-    rw (e, f) t
-past_zeros s (suc n) p r bs t =
-    let e : p + suc n ≡ suc p + n = omega arith in
-    let f : r + suc n ≡ suc r + n = omega arith in
-    rw (e, f) (past_zeros s n (suc p) (suc r) bs t)
+past_zeros last zero p bs t = let e : p + 0 ≡ p = omega arith in rw e t
+past_zeros last (suc n) p bs t = let e : p + suc n ≡ suc p + n = omega arith in rw e (past_zeros last n (suc p) bs t)
 
 zero_run_at :
-    (s : Bool) (head tail : List ℕ) (k p r : ℕ) → T (zero_runs_from s p r (head ++ 1 ∷ (replicate k 0 ++ 1 ∷ tail))) → T (block_zero_run_fits (p + length head) k)
+    (last : Option ℕ) (head tail : List ℕ) (k p : ℕ) → T (zero_runs_from last p (head ++ 1 ∷ (replicate k 0 ++ 1 ∷ tail))) → T (block_zero_run_fits (p + length head) k)
 unfolding zero_runs_from
-zero_run_at s [] tail k p r t =
-    let u = and_right (not s || block_zero_run_fits (p - suc r) r) (zero_runs_from true (suc p) 0 (replicate k 0 ++ 1 ∷ tail)) t in
-    let v = past_zeros true k (suc p) 0 (1 ∷ tail) u in
-    let w = and_left (block_zero_run_fits (suc p + k - suc (0 + k)) (0 + k)) (zero_runs_from true (suc (suc p + k)) 0 tail) v in
-    let e : suc p + k - suc (0 + k) ≡ p + 0 = omega arith in
-    let f : 0 + k ≡ k = omega arith in
+zero_run_at last [] tail k p t =
+    let u = and_right (one_fits last p) (zero_runs_from (Some p) (suc p) (replicate k 0 ++ 1 ∷ tail)) t in
+    let v = past_zeros (Some p) k (suc p) (1 ∷ tail) u in
+    let w = and_left (block_zero_run_fits p (suc p + k - suc p)) (zero_runs_from (Some (suc p + k)) (suc (suc p + k)) tail) v in
+    let e : p ≡ p + 0 = omega arith in
+    let f : suc p + k - suc p ≡ k = omega arith in
     same-zero_run_fits e f w
-zero_run_at s (zero ∷ head) tail k p r t =
+zero_run_at last (zero ∷ head) tail k p t =
     let e : suc p + length head ≡ p + suc (length head) = omega arith in
-    moved_zero_run_fits k e (zero_run_at s head tail k (suc p) (suc r) t)
-zero_run_at s (suc x ∷ head) tail k p r t =
+    moved_zero_run_fits k e (zero_run_at last head tail k (suc p) t)
+zero_run_at last (suc x ∷ head) tail k p t =
     let e : suc p + length head ≡ p + suc (length head) = omega arith in
     moved_zero_run_fits k e
-    (zero_run_at true head tail k (suc p) 0 (and_right (not s || block_zero_run_fits (p - suc r) r) (zero_runs_from true (suc p) 0 (head ++ 1 ∷ (replicate k 0 ++ 1 ∷ tail))) t))
+    (zero_run_at (Some p) head tail k (suc p) (and_right (one_fits last p) (zero_runs_from (Some p) (suc p) (head ++ 1 ∷ (replicate k 0 ++ 1 ∷ tail))) t))
 
 pub holds_zero_runs :
     (xs : List ℕ) → T (zero_runs_hold xs) → (head tail : List ℕ) (k : ℕ) → bits_bytes xs ≡ head ++ 1 ∷ (replicate k 0 ++ 1 ∷ tail) → T (block_zero_run_fits (length head) k)
 holds_zero_runs xs t head tail k e =
-    moved_zero_run_fits k (zero-add (length head)) (zero_run_at false head tail k 0 0 (subst (λ (l : List ℕ). T (zero_runs_from false 0 0 l)) e t))
+    moved_zero_run_fits k (zero-add (length head)) (zero_run_at None head tail k 0 (subst (λ (l : List ℕ). T (zero_runs_from None 0 l)) e t))
 
 -- ---- and what has only such zero runs passes
 
@@ -74,38 +69,29 @@ zero_runs_tail p b bs h head tail k e =
     let m : p + suc (length head) ≡ suc p + length head = omega arith in
     moved_zero_run_fits k m (h (b ∷ head) tail k (ap (λ (l : List ℕ). b ∷ l) e))
 
--- the zero run that a next ONE ends fits, r ZEROs having passed since the ONE at bit p - r - 1
-Open : ℕ → ℕ → List ℕ → Type 0
-Open p r bs = (tail : List ℕ) (k : ℕ) → bs ≡ replicate k 0 ++ 1 ∷ tail → T (block_zero_run_fits (p - suc r) (r + k))
+-- the next ONE of the bits from bit p on, if there is one, may stand after the last before it
+Open : Option ℕ → ℕ → List ℕ → Type 0
+Open last p bs = (tail : List ℕ) (k : ℕ) → bs ≡ replicate k 0 ++ 1 ∷ tail → T (one_fits last (p + k))
 
-opened : (p : ℕ) (bs : List ℕ) → AllFit p (1 ∷ bs) → Open (suc p) 0 bs
+opened : (p : ℕ) (bs : List ℕ) → AllFit p (1 ∷ bs) → Open (Some p) (suc p) bs
 unfolding AllFit Open
 opened p bs h tail k e =
-    let m : p + 0 ≡ suc p - 1 = omega arith in
-    let f : k ≡ 0 + k = omega arith in
+    let m : p + 0 ≡ p = omega arith in
+    let f : k ≡ suc p + k - suc p = omega arith in
     same-zero_run_fits m f (h [] tail k (ap (λ (l : List ℕ). 1 ∷ l) e))
 
-seen_hold : (bs : List ℕ) (p r : ℕ) → Digits bs → Open p r bs → AllFit p bs → T (zero_runs_from true p r bs)
+all_hold : (bs : List ℕ) (last : Option ℕ) (p : ℕ) → Digits bs → Open last p bs → AllFit p bs → T (zero_runs_from last p bs)
 unfolding zero_runs_from Digits Open
-seen_hold [] p r d o h = tt
-seen_hold (zero ∷ bs) p r d o h =
-    seen_hold bs (suc p) (suc r) d.1
-    (λ tail k e.
-    let m : p - suc r ≡ suc p - suc (suc r) = omega arith in
-    let f : r + suc k ≡ suc r + k = omega arith in
-    same-zero_run_fits m f (o tail (suc k) (ap (λ (l : List ℕ). 0 ∷ l) e)))
+all_hold [] last p d o h = tt
+all_hold (zero ∷ bs) last p d o h =
+    all_hold bs last (suc p) d.1
+    (λ tail k e. let m : p + suc k ≡ suc p + k = omega arith in subst (λ (x : ℕ). T (one_fits last x)) m (o tail (suc k) (ap (λ (l : List ℕ). 0 ∷ l) e)))
     (zero_runs_tail p 0 bs h)
-seen_hold (suc zero ∷ bs) p r d o h =
-    and_both (block_zero_run_fits (p - suc r) r) (zero_runs_from true (suc p) 0 bs) (let f : r + 0 ≡ r = omega arith in subst (λ (x : ℕ). T (block_zero_run_fits (p - suc r) x)) f (o bs 0 refl))
-    (seen_hold bs (suc p) 0 d.1 (opened p bs h) (zero_runs_tail p 1 bs h))
-seen_hold (suc (suc x) ∷ bs) p r d o h = absurd (omega (arith, d.0))
-
-none_hold : (bs : List ℕ) (p r : ℕ) → Digits bs → AllFit p bs → T (zero_runs_from false p r bs)
-unfolding zero_runs_from Digits
-none_hold [] p r d h = tt
-none_hold (zero ∷ bs) p r d h = none_hold bs (suc p) (suc r) d.1 (zero_runs_tail p 0 bs h)
-none_hold (suc zero ∷ bs) p r d h = seen_hold bs (suc p) 0 d.1 (opened p bs h) (zero_runs_tail p 1 bs h)
-none_hold (suc (suc x) ∷ bs) p r d h = absurd (omega (arith, d.0))
+all_hold (suc zero ∷ bs) last p d o h =
+    let m : p + 0 ≡ p = omega arith in
+    and_both (one_fits last p) (zero_runs_from (Some p) (suc p) bs) (subst (λ (x : ℕ). T (one_fits last x)) m (o bs 0 refl))
+    (all_hold bs (Some p) (suc p) d.1 (opened p bs h) (zero_runs_tail p 1 bs h))
+all_hold (suc (suc x) ∷ bs) last p d o h = absurd (omega (arith, d.0))
 
 digits : (xs : List ℕ) → Digits (bits_bytes xs)
 unfolding bits_bytes Digits
@@ -114,9 +100,9 @@ digits (x ∷ xs) = (omega arith, (omega arith, (omega arith, (omega arith, (ome
 
 pub zero_runs_hold_lem :
     (xs : List ℕ) → ((head tail : List ℕ) (k : ℕ) → bits_bytes xs ≡ head ++ 1 ∷ (replicate k 0 ++ 1 ∷ tail) → T (block_zero_run_fits (length head) k)) → T (zero_runs_hold xs)
-unfolding AllFit
+unfolding AllFit Open
 zero_runs_hold_lem xs h =
-    none_hold (bits_bytes xs) 0 0 (digits xs) (λ head tail k e. moved_zero_run_fits k (sym (zero-add (length head))) (h head tail k e))
+    all_hold (bits_bytes xs) None 0 (digits xs) (λ tail k e. tt) (λ head tail k e. moved_zero_run_fits k (sym (zero-add (length head))) (h head tail k e))
 
 -- a permitted stream of a run passes
 pub run_zero_runs_hold : (run : List (List ℕ)) (cs : List Bool) → Blocks run → T (permitted_run run cs) → T (zero_runs_hold (run_stream run cs))

@@ -3,6 +3,4 @@ use Rattle.dataframe.proofs.Framed.{head_built}
 use Rattle.dataframe.proofs.head.Goals as goal
 
 pub returns : goal.returns
-returns c =
-    let a = c.args in
-    head_built a.info a.number _ _ _ _ c.low_byte-a.ensures c.low_byte-b.ensures c.low_byte-c.ensures c.parity2_with-e.ensures
+returns c = head_built c.args.info c.args.number _ _ c.to_be_bytes.ensures c.parity2_with.ensures

@@ -1,21 +1,17 @@
 -- `syndromes::value_of` meets its contract: Horner's rule, byte by byte. Assumes nothing.
-use mathlib.Core.Path.{refl, sym, ◌∙◌}
+use Rattle.std.proofs.Common.{refl, sym, ◌∙◌, arith}
 use Rattle.field.specs.Field.{add}
 use Rattle.codes.specs.Word.{value_at}
 use Rattle.codes.proofs.Words.{value_from_next, value_from_end}
-use native.Mathlib.Omega.{arith}
 use Rattle.syndromes.proofs.value_of.Goals as goal
 
-pub loop-i-init : goal.loop-i-init
+pub loop-b-init : goal.loop-b-init
 unfolding value_at
-loop-i-init c = (omega arith, refl)
+loop-b-init c = refl
 
-pub product-requires : goal.product-requires
-product-requires c = c.requires
-
-pub loop-i-preserved : goal.loop-i-preserved
+pub loop-b-preserved : goal.loop-b-preserved
 unfolding add
-loop-i-preserved c = (omega arith, rw c.product.ensures (value_from_next c.args.x c.loop-i.v c.args.word.now c.loop-i.i (omega arith) ∙ c.loop-i.invariant.1))
+loop-b-preserved c = rw c.product.ensures (value_from_next c.args.x c.loop-b.v c.args.word.now c.loop-b.b-index (omega arith) ∙ c.loop-b.invariant)
 
 pub returns : goal.returns
-returns c = sym (value_from_end c.args.x c.loop-i.v c.args.word.now c.loop-i.i (omega arith)) ∙ c.loop-i.invariant.1
+returns c = sym (value_from_end c.args.x c.loop-b.v c.args.word.now c.loop-b.b-index (omega arith)) ∙ c.loop-b.invariant
