@@ -7,15 +7,16 @@ use mathlib.Core.Bool.{true}
 use mathlib.Core.List.{List, [], ◌++◌, append_assoc, append-nil}
 use Prim.Native.Nat.{ℕ, zero, suc, ◌+◌, ◌*◌, ◌<◌}
 use native.Mathlib.Omega.{arith}
+use borrow.Author.Tests.{eq-eqb}
 use lib.ListN.{length, drop, length-drop}
 use lib.Seq.{length-take-le}
+use Rattle.std.specs.Prelude.{Ok}
 use Rattle.channel.specs.Block.{read_sector, erasures_of_sector, each_sector, read_block, erasures_of_block}
 use Rattle.layout.specs.Lengths.{sector_count, sector_size, sector_stream, sector_read, stream_size}
 use Rattle.layout.specs.Sectors.{sector_part}
-use Rattle.reader.specs.Sector.{unknown_tally, sync_tally, sector_fits, sector_answer, sector_after, erasures_after, sector_read_number}
+use Rattle.reader.specs.Sector.{sector_tally, sector_fits, sector_answer, sector_after, erasures_after}
+use Rattle.refusals.specs.Refusal.{answer_number}
 use Rattle.reader.specs.Session.{Buffers, Lent, call_answer, call_bytes, call_erasures, joined, block_bytes, block_erasures}
-use Rattle.reader.specs.declared.SectorRead.TheVariants.{Sector}
-use Rattle.reader.proofs.Answers.{fits}
 
 -- what f gives of the sectors of xs, one after the other
 module _ (f : List ℕ → List ℕ) (xs : List ℕ) where
@@ -46,10 +47,11 @@ module _ (xs : List ℕ) (whole : length xs ≡ stream_size) (k n m : ℕ) (h : 
   part_length = length-take-le sector_read (drop (sector_stream * k) xs) (rw length-drop (omega arith))
 
   pub part_fits : sector_fits (sector_part xs k) n m ≡ true
-  part_fits = fits (sector_part xs k) n m part_length hn hm
+  unfolding sector_fits
+  part_fits = rw (eq-eqb _ sector_read part_length, eq-eqb n sector_size hn, eq-eqb m sector_size hm)
 
   -- a sector is not refused: the answer has its two tallies
-  pub part_answer≡tallies : sector_answer (sector_part xs k) n m ≡ Sector (unknown_tally (sector_part xs k)) (sync_tally (sector_part xs k))
+  pub part_answer≡tallies : sector_answer (sector_part xs k) n m ≡ Ok (sector_tally (sector_part xs k))
   unfolding sector_answer
   part_answer≡tallies = rw part_fits
 
@@ -58,13 +60,13 @@ module _ (xs : List ℕ) (b : Buffers) (whole : length xs ≡ stream_size) (lent
   call_fits k h = part_fits xs whole k (length (b.bytes k)) (length (b.erasures k)) h (lent.bytes-sized k h) (lent.erasures-sized k h)
 
   -- each call answers with the two tallies of its sector,
-  pub call_answer≡tallies : (k : ℕ) → k < sector_count → call_answer xs b k ≡ Sector (unknown_tally (sector_part xs k)) (sync_tally (sector_part xs k))
+  pub call_answer≡tallies : (k : ℕ) → k < sector_count → call_answer xs b k ≡ Ok (sector_tally (sector_part xs k))
   call_answer≡tallies k h =
       part_answer≡tallies xs whole k (length (b.bytes k)) (length (b.erasures k)) h (lent.bytes-sized k h) (lent.erasures-sized k h)
 
   -- so that none is refused,
-  pub call_number≡0 : (k : ℕ) → k < sector_count → sector_read_number (call_answer xs b k) ≡ 0
-  call_number≡0 k h = ap sector_read_number (call_answer≡tallies k h)
+  pub call_number≡0 : (k : ℕ) → k < sector_count → answer_number (call_answer xs b k) ≡ 0
+  call_number≡0 k h = ap answer_number (call_answer≡tallies k h)
 
   -- and leaves the bytes of its sector, and the marks
   pub call_bytes≡read_sector : (k : ℕ) → k < sector_count → call_bytes xs b k ≡ read_sector (sector_part xs k)

@@ -1,4 +1,3 @@
 pub mod Calls
-pub mod Steps
-pub mod Answers
+pub mod Counts
 pub mod Examples

@@ -5,11 +5,12 @@
 --   call_bytes, call_erasures     and what its two buffers hold then
 --   block_bytes, block_erasures   the sixteen buffers of bytes, and of marks
 -- Assumes nothing.
-use Rattle.std.specs.Prelude.{◌≡◌, List, [], ◌++◌, ℕ, zero, suc, ◌<◌, length}
+use Rattle.std.specs.Prelude.{◌≡◌, List, [], ◌++◌, ℕ, zero, suc, ◌<◌, length, Result}
 use Rattle.layout.specs.Sectors.{sector_part}
 use Rattle.layout.specs.Lengths.{sector_count, sector_size}
 use Rattle.reader.specs.Sector.{sector_answer, sector_after, erasures_after}
-use Rattle.reader.specs.declared.SectorRead.{SectorRead}
+use Rattle.reader.specs.declared.SectorTally.{SectorTally}
+use Rattle.refusals.specs.declared.Refusal.{Refusal}
 
 -- what the two buffers lent for sector k hold before its call
 pub record Buffers : Type 0 where
@@ -22,7 +23,7 @@ pub record Lent (b : Buffers) : Type 0 where
   pub erasures-sized : (k : ℕ) → k < sector_count → length (b.erasures k) ≡ sector_size
 
 -- what the call for sector k answers, and what its buffers hold at exit
-abbrev pub call_answer : List ℕ → Buffers → ℕ → SectorRead
+abbrev pub call_answer : List ℕ → Buffers → ℕ → Result SectorTally Refusal
 call_answer xs b k = sector_answer (sector_part xs k) (length (b.bytes k)) (length (b.erasures k))
 
 abbrev pub call_bytes : List ℕ → Buffers → ℕ → List ℕ

@@ -35,12 +35,7 @@ pub fn syndromes_into(logs: &Logs, word: &[u8], out: &mut [u8])
 pub fn all_zero(syndromes: &[u8]) -> bool
     ensures { result ≡ all_zero syndromes.now }
 {
-    for sum in syndromes {
-        if *sum != 0 {
-            return false;
-        }
-    }
-    true
+    syndromes.iter().all(|sum| *sum == 0)
 }
 
 // The syndromes of what is left of a word by the generator with P roots, which are the word's own. Where nothing is left they are zeros, at once.
