@@ -1,66 +1,40 @@
--- A pass from frame to frame: what is left at a frame and after it, of the frames (frames_turn), of their bytes (bytes-found, bytes_turn) and of the stretches
--- (between-found, between_turn), and past the last frame (frames_end, bytes_end, between_end). A gap by its bits (gap-some, gap-none).
+-- A pass from frame to frame: what is left before a frame and after it, of the bytes (bytes_turn) and of the stretches (between_turn), and past the last frame
+-- (bytes_end, between_end). Where a frame that is taken ends (found_end). A gap by its bits (gap-some, gap-none).
 -- Assumes nothing.
-use mathlib.Core.Path.{◌≡◌, refl, ap, ◌∙◌}
+use mathlib.Core.Path.{◌≡◌, ap}
 use mathlib.Core.Bool.{Bool, cond}
 use mathlib.Core.List.{List, [], ◌∷◌, ◌++◌}
 use Prim.Native.Nat.{ℕ, ◌+◌, ◌-◌, ◌<◌, ◌≤◌}
 use borrow.Author.Tests.{lt-ltb, le-ltb}
 use Rattle.layout.specs.Lengths.{frame_bits, sync_bits}
 use Rattle.framing.specs.Frames.{bit_count, frames_from, bytes_of_frame, bytes_of}
-use Rattle.framing.specs.Stretches.{gap, between}
+use Rattle.framing.specs.Stretches.{gap, between, stretches_from}
 use Rattle.framing.specs.Inner.{NextFrame}
-use Rattle.framing.proofs.Frames.{frames-taken, frames_past, frame_end}
+use Rattle.framing.proofs.Frames.{frame_end}
 
-bytes_frame : (xs : List ℕ) (p : ℕ) (ps : List ℕ) → bytes_of xs (p ∷ ps) ≡ bytes_of_frame xs p ++ bytes_of xs ps
-unfolding bytes_of
-bytes_frame xs p ps = refl
+module _ (xs : List ℕ) where
+  -- a frame was found
+  module _ {start frame : ℕ} (next : NextFrame xs start frame) where
+    pub found_end : frame + frame_bits + sync_bits ≤ bit_count xs
+    found_end = frame_end xs frame next.found
 
-bytes-none : (xs : List ℕ) → bytes_of xs [] ≡ []
-unfolding bytes_of
-bytes-none xs = refl
+    pub bytes_turn : bytes_of xs (frames_from xs start) ≡ bytes_of_frame xs frame ++ bytes_of xs (frames_from xs (frame + frame_bits))
+    unfolding bytes_of
+    bytes_turn = ap (bytes_of xs) next.taken
 
-between_none : (a end : ℕ) → between a [] end ≡ gap a end
-unfolding between
-between_none a end = refl
-
-between_frame : (a p : ℕ) (ps : List ℕ) (end : ℕ) → between a (p ∷ ps) end ≡ gap a p ++ between (p + frame_bits) ps end
-unfolding between
-between_frame a p ps end = refl
-
-module _ (xs : List ℕ) {start frame : ℕ} (here : NextFrame xs start frame) where
-  pub frames_end : bit_count xs ≤ frame → frames_from xs frame ≡ []
-  frames_end h = frames_past xs frame h
-
-  pub bytes-found : frame < bit_count xs → bytes_of xs (frames_from xs frame) ≡ bytes_of_frame xs frame ++ bytes_of xs (frames_from xs (frame + frame_bits))
-  bytes-found h = ap (bytes_of xs) (frames-taken xs frame (here.found h)) ∙ bytes_frame xs frame (frames_from xs (frame + frame_bits))
-
-  pub between-found :
-      frame < bit_count xs → between start (frames_from xs frame) (bit_count xs) ≡ gap start frame ++ between (frame + frame_bits) (frames_from xs (frame + frame_bits)) (bit_count xs)
-  between-found h =
-      ap (λ (ps : List ℕ). between start ps (bit_count xs)) (frames-taken xs frame (here.found h))
-      ∙ between_frame start frame (frames_from xs (frame + frame_bits)) (bit_count xs)
-
-  -- a frame was found, and after it the next one, or none
-  module _ (h : frame < bit_count xs) {after : ℕ} (next : NextFrame xs (frame + frame_bits) after) where
-    pub frames_turn : frames_from xs frame ≡ frame ∷ frames_from xs after
-    frames_turn = frames-taken xs frame (here.found h) ∙ ap (λ (ps : List ℕ). frame ∷ ps) next.same
-
-    pub bytes_turn : bytes_of xs (frames_from xs frame) ≡ bytes_of_frame xs frame ++ bytes_of xs (frames_from xs after)
-    bytes_turn = bytes-found h ∙ ap (λ (ps : List ℕ). bytes_of_frame xs frame ++ bytes_of xs ps) next.same
-
-    pub between_turn : between start (frames_from xs frame) (bit_count xs) ≡ gap start frame ++ between (frame + frame_bits) (frames_from xs after) (bit_count xs)
-    between_turn = between-found h ∙ ap (λ (ps : List ℕ). gap start frame ++ between (frame + frame_bits) ps (bit_count xs)) next.same
+    pub between_turn : stretches_from xs start ≡ gap start frame ++ stretches_from xs (frame + frame_bits)
+    unfolding between
+    between_turn = ap (λ (ps : List ℕ). between start ps (bit_count xs)) next.taken
 
   -- no frame was found
-  pub bytes_end : bit_count xs ≤ frame → bytes_of xs (frames_from xs frame) ≡ []
-  bytes_end h = ap (bytes_of xs) (frames_end h) ∙ bytes-none xs
+  module _ (start : ℕ) (none : frames_from xs start ≡ []) where
+    pub bytes_end : bytes_of xs (frames_from xs start) ≡ []
+    unfolding bytes_of
+    bytes_end = ap (bytes_of xs) none
 
-  pub between_end : bit_count xs ≤ frame → between start (frames_from xs frame) (bit_count xs) ≡ gap start (bit_count xs)
-  between_end h = ap (λ (ps : List ℕ). between start ps (bit_count xs)) (frames_end h) ∙ between_none start (bit_count xs)
-
-  pub found_end : frame < bit_count xs → frame + frame_bits + sync_bits ≤ bit_count xs
-  found_end h = frame_end xs frame (here.found h)
+    pub between_end : stretches_from xs start ≡ gap start (bit_count xs)
+    unfolding between
+    between_end = ap (λ (ps : List ℕ). between start ps (bit_count xs)) none
 
 -- ---- a gap between two bits
 

@@ -3,16 +3,16 @@
 -- and a length for each entry.
 --   capture_sized, stretches_fit              the tests of refusals 1 and 14
 --   capture_refusal, capture_answer           the number that a call is refused with, and the answer
---   capture_number                           the number of each answer
 --   filled, capture_buffer                   what the buffer holds then
 --   SomeOrder, laid_out, Listed, ListAfter   and the list
 -- Assumes nothing.
-use Rattle.std.specs.Prelude.{◌≡◌, Bool, cond, ◌&&◌, List, [], ◌∷◌, ◌++◌, ℕ, zero, suc, ◌*◌, ◌/◌, eqb, leb, length, drop}
+use Rattle.std.specs.Prelude.{◌≡◌, Bool, Result, Ok, Err, cond, ◌&&◌, List, [], ◌∷◌, ◌++◌, ℕ, zero, suc, ◌*◌, ◌/◌, eqb, leb, length, drop}
 use Rattle.layout.specs.Lengths.{frame_bytes, frame_stream, longest_capture}
 use Rattle.framing.specs.Frames.{frames_from, bytes_of}
 use Rattle.framing.specs.Stretches.{Stretch, stretches_from}
-use Rattle.capture.specs.declared.CaptureRead.{CaptureRead}
-use Rattle.capture.specs.declared.CaptureRead.TheVariants.{Captured, StretchesRefused, LengthRefused}
+use Rattle.refusals.specs.declared.Refusal.{Refusal}
+use Rattle.refusals.specs.declared.Refusal.TheVariants.{Length, Stretches}
+use Rattle.capture.specs.declared.Captured.{Captured}
 
 -- the capture is no longer than it may be, and the lent buffer has n bytes, as many as stated
 unfoldable pub capture_sized : List ℕ → ℕ → Bool
@@ -27,15 +27,9 @@ unfoldable pub capture_refusal : List ℕ → ℕ → ℕ → ℕ → ℕ
 capture_refusal xs p n m = cond (capture_sized xs n) (cond (stretches_fit xs p m) 0 14) 1
 
 -- the answer: how many frames are taken, and how many stretches there are
-unfoldable pub capture_answer : List ℕ → ℕ → ℕ → ℕ → CaptureRead
+unfoldable pub capture_answer : List ℕ → ℕ → ℕ → ℕ → Result Captured Refusal
 capture_answer xs p n m =
-    cond (capture_sized xs n) (cond (stretches_fit xs p m) (Captured (length (frames_from xs p)) (length (stretches_from xs p))) StretchesRefused) LengthRefused
-
--- the number of each answer
-abbrev pub capture_number : CaptureRead → ℕ
-capture_number (Captured frames stretches) = 0
-capture_number StretchesRefused = 14
-capture_number LengthRefused = 1
+    cond (capture_sized xs n) (cond (stretches_fit xs p m) (Ok (record { frames = length (frames_from xs p); stretches = length (stretches_from xs p) })) (Err Stretches)) (Err Length)
 
 -- a buffer whose first places hold `new`, and the rest of which is kept
 abbrev pub filled : List ℕ → List ℕ → List ℕ

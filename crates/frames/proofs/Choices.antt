@@ -3,9 +3,10 @@
 use mathlib.Core.Path.{◌≡◌, refl, sym, ap, ap₂, subst, ◌∙◌}
 use mathlib.Core.Bool.{Bool, true, false, cond, ◌&&◌, ◌||◌}
 use mathlib.Core.List.{List}
+use mathlib.Core.Logic.{◌⊎◌, inl, inr}
 use Prim.Native.Nat.{ℕ, ◌+◌, ◌<◌, ◌≤◌}
 use native.Mathlib.Omega.{arith}
-use borrow.Author.Tests.{le-leb, lt-leb}
+use borrow.Author.Tests.{le-leb, lt-leb, ne_eqb}
 use lib.Dec.{eqb, ltb, leb}
 use lib.ListN.{take}
 use lib.Seq.{take-take}
@@ -50,6 +51,14 @@ module _ (s l b : ℕ) where
     swap_second g w k =
         let second = ap (λ (x : ℕ). inside 2 10 (join_zeros l x)) (sym k) in
         sym (cases true true true (inside 2 10 (join_zeros l w)) (le-leb 88 b h) e (joined_first true g) second)
+
+-- the States in which a swap can be made
+pub swaps_in : {s : ℕ} → ((s ≡ 1 → ⊥) × s ≡ 4) ⊎ (s ≡ 1) → swaps s ≡ true
+swaps_in (inl e) = rw e.1 refl
+swaps_in (inr e) = rw e refl
+
+pub swaps_out : {s : ℕ} → (s ≡ 1 → ⊥) × (s ≡ 4 → ⊥) → swaps s ≡ false
+swaps_out {s} h = ap₂ ◌||◌ (ne_eqb s 1 h.0) (ne_eqb s 4 h.1)
 
 -- ---- the step as the code makes it
 

@@ -32,12 +32,6 @@ use Rattle.frames.specs.declared.Pair.{Pair}
 
 -- ---- byte by byte
 
--- only the lengths of the buffers count
-pub begins_in :
-    {r : Running} {n : ℕ} {bs x y x₁ y₁ : List ℕ} → Begins r n bs x y → length x₁ ≡ frame_stream
-    → length y₁ ≡ frame_stream → Begins r n bs x₁ y₁
-begins_in g l m = record { state = g.state; code = g.code; room = g.room; bytes = g.bytes; one = l; two = m }
-
 pub shows-opened :
     (r : Running) (n : ℕ) {q₁ q₂ : Side} {x y : List ℕ} → Part q₁ x 4 (lay (fresh r) (sync n) false)
     → Part q₂ y 4 (lay (fresh r) (sync n) true) → Shows (record { one = q₁; two = q₂; shared = 0 }) x y 4 (opened r n)
@@ -82,8 +76,7 @@ unfolding width
 width_map [] = refl
 width_map (b ∷ bs) = ap suc (width_map bs)
 
-module _ {r : Running} {n : ℕ} {bs x₀ y₀ : List ℕ} (g : Begins r n bs x₀ y₀) (hb : Bytes bs) (i : ℕ)
-    (h : i < frame_bytes) where
+module _ {r : Running} {n : ℕ} (g : Begins r n) (bs : List ℕ) (hb : Bytes bs) (i : ℕ) (h : i < frame_bytes) where
   is_width : width (frame_items n (take i bs)) ≤ 2 + i
   unfolding width
   is_width = omega (arith, width_map (take i bs), length-take i bs)
@@ -121,22 +114,22 @@ module _ {r : Running} {n : ℕ} {bs x₀ y₀ : List ℕ} (g : Begins r n bs x�
       }
 
 pub stepped_ready :
-    {p₀ p : Pair} {x₀ y₀ x y bs : List ℕ} {i : ℕ} → Opened p₀ bs x₀ y₀ → Bytes bs → i < frame_bytes
+    {p₀ p : Pair} {x₀ y₀ x y bs : List ℕ} {i : ℕ} → Opened p₀ x₀ y₀ → Bytes bs → i < frame_bytes
     → length x ≡ frame_stream → length y ≡ frame_stream → Stepped p₀ x₀ y₀ bs i p x y → Ready p (4 + 2 * i) x y
-stepped_ready {i = i} o hb h lx ly f =
-    ready_shown o.begins hb i h lx ly (f.shows (opened o.start o.code) o.shows)
+stepped_ready {bs = bs} {i = i} o hb h lx ly f =
+    ready_shown o.begins bs hb i h lx ly (f.shows (opened o.start o.code) o.shows)
 
 -- all 91 bytes are laid: each buffer is the whole of its stream
 pub stepped_whole :
     (r : Running) (n : ℕ) {p₀ p : Pair} {x₀ y₀ x y bs : List ℕ} → Stepped p₀ x₀ y₀ bs frame_bytes p x y
-    → Shows p₀ x₀ y₀ 4 (opened r n) → Begins r n bs x y
+    → Shows p₀ x₀ y₀ 4 (opened r n) → length bs ≡ frame_bytes → length x ≡ frame_stream → length y ≡ frame_stream
     → Whole p.one.running x (filled r n bs).one × Whole p.two.running y (filled r n bs).two
-stepped_whole r n {p₀} {p} {x₀} {y₀} {x} {y} {bs} f s g =
-    let all : take frame_bytes bs ≡ bs = take_all frame_bytes bs (omega (arith, g.bytes)) in
+stepped_whole r n {p₀} {p} {x₀} {y₀} {x} {y} {bs} f s lb lx ly =
+    let all : take frame_bytes bs ≡ bs = take_all frame_bytes bs (omega (arith, lb)) in
     let w : Shows p x y frame_stream (filled r n bs) =
     subst (λ (z : List ℕ). Shows p x y frame_stream (steps (opened r n) z)) all (f.shows (opened r n) s) in
-    let one : take frame_stream x ≡ x = take_all frame_stream x (omega (arith, g.one)) in
-    let two : take frame_stream y ≡ y = take_all frame_stream y (omega (arith, g.two)) in (
+    let one : take frame_stream x ≡ x = take_all frame_stream x (omega (arith, lx)) in
+    let two : take frame_stream y ≡ y = take_all frame_stream y (omega (arith, ly)) in (
       record { running = w.one.running; bytes = sym one ∙ w.one.bytes },
       record { running = w.two.running; bytes = sym two ∙ w.two.bytes },
     )

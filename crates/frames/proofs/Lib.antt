@@ -1,4 +1,4 @@
-pub mod Buffers
+pub mod Copies
 pub mod Words
 pub mod Choices
 pub mod Ended

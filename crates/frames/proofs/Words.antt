@@ -14,7 +14,7 @@ use Rattle.laying.specs.declared.Side.{Side}
 use Rattle.levels.specs.declared.Running.{Running}
 use Rattle.streams.specs.Streams.{Stream, fresh, lay}
 use Rattle.frames.specs.Inner.{Part}
-use Rattle.frames.proofs.Buffers.{put_laid, put_before, put_length}
+use Rattle.frames.proofs.Copies.{put_laid, put_before, put_length}
 
 -- byte b was laid by the choice c at the end d of a stream: its buffer x became y, and its end q
 pub record Worded (d : Side) (b : ℕ) (c : Bool) (at : ℕ) (x y : List ℕ) (q : Side) : Type 0 where

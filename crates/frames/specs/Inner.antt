@@ -1,13 +1,13 @@
 -- Vocabulary of inner contracts: Begins (when a Sync Frame may be laid), then what step.rt and end.rt hand to each other while a frame is laid, and what
 -- the buffers of two streams hold then. What `frames::frame` promises is stated with `sync_frame_of` and `buffer_after` of streams.
 -- Assumes nothing.
-use Rattle.std.specs.Prelude.{◌≡◌, Bool, true, false, cond, ◌&&◌, ◌||◌, List, ℕ, ◌+◌, ◌*◌, ◌<◌, ◌≤◌, eqb, ltb, leb, length, take}
+use Rattle.std.specs.Prelude.{◌≡◌, Bool, true, false, cond, ◌&&◌, ◌||◌, List, ℕ, ◌+◌, ◌*◌, ◌<◌, ◌≤◌, eqb, ltb, leb, take}
 use Rattle.annexg.specs.Read.{State}
 use Rattle.annexg.specs.Sync.{code_for}
 use Rattle.octets.specs.Halves.{packed, half_at}
 use Rattle.laying.specs.Inner.{Next}
 use Rattle.laying.specs.declared.Side.{Side}
-use Rattle.layout.specs.Lengths.{frame_bits, frame_bytes, frame_stream}
+use Rattle.layout.specs.Lengths.{frame_bits}
 use Rattle.levels.specs.Level.{magnitude}
 use Rattle.levels.specs.Inner.{Room}
 use Rattle.levels.specs.declared.Running.{Running}
@@ -16,14 +16,11 @@ use Rattle.streams.specs.Streams.{Stream, Two, stream_of, opened, steps, swap_po
 use Rattle.frames.specs.declared.Pair.{Pair}
 use Rattle.frames.specs.declared.Plan.{Plan}
 
--- a frame of SYn and the bytes bs may begin from the running record r, in buffers that hold x and y: 93 half words of 16 bits in 186 bytes
-pub record Begins (r : Running) (n : ℕ) (bs x y : List ℕ) : Type 0 where
+-- a frame of SYn may begin from the running record r: 93 half words of 16 bits
+pub record Begins (r : Running) (n : ℕ) : Type 0 where
   pub state : State r.state
   pub code : n < 8
   pub room : Room r frame_bits
-  pub bytes : length bs ≡ frame_bytes
-  pub one : length x ≡ frame_stream
-  pub two : length y ≡ frame_stream
 
 -- ---- one stream
 
@@ -79,11 +76,11 @@ pub record Evened (copy first : Bool) (p : Pair) (x y : List ℕ) (at : ℕ) (q 
 
 -- ---- the bytes of a frame
 
--- both streams have their SYNC Code, and a frame of the bytes bs may go on from there
-pub record Opened (p : Pair) (bs x y : List ℕ) : Type 0 where
+-- both streams have their SYNC Code, and a frame may go on from there
+pub record Opened (p : Pair) (x y : List ℕ) : Type 0 where
   pub start : Running
   pub code : ℕ
-  pub begins : Begins start code bs x y
+  pub begins : Begins start code
   pub shows : Shows p x y 4 (opened start code)
 
 -- over the first n of the bytes bs p, x, y became q, v, w: whatever streams they showed, they show them after the steps

@@ -24,7 +24,8 @@ pub fn unpack<const P: usize>(register: Remainder) -> [u8; P]
 pub fn parity<const P: usize>(table: &Multiples<P>, d: &[u8]) -> [u8; P]
     ensures { result ≡ parity P d.now }
 {
-    unpack(division::divide(table, d))
+    let left = division::divide(table, d);
+    unpack(left)
 }
 
 // The inner parity of a row (clause 18).

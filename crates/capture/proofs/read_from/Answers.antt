@@ -19,22 +19,19 @@ returns-then-not-is_sized c =
       list_after = answered.listed;
     }
 
-pub count-tally-requires : goal.count-tally-requires
-count-tally-requires c =
+pub count-captured-requires : goal.count-captured-requires
+count-captured-requires c =
     let args = c.args in
     let sized = sized_by args.stream.now (length args.out.now) _ true c.is_sized.ensures c.if-not-is_sized.false in
-    record {
-      syncs_value = c.sync_table-syncs.ensures;
-      stream_len_bound = sized_capture args.stream.now (length args.out.now) sized;
-    }
+    sized_capture args.stream.now (length args.out.now) sized
 
-pub returns-then-stretches-tally : goal.returns-then-stretches-tally
-returns-then-stretches-tally c =
+pub returns-then-stretches-captured : goal.returns-then-stretches-captured
+returns-then-stretches-captured c =
     let args = c.args in
     let xs = args.stream.now in
     let list = args.stretches.now in
     let sized = sized_by xs (length args.out.now) _ true c.is_sized.ensures c.if-not-is_sized.false in
-    let refused = too_many xs args.at (length list) _ c.count-tally.ensures.stretches_value c.if-stretches-tally.true in
+    let refused = too_many xs args.at (length list) _ c.count-captured.ensures.stretches_value c.if-stretches-captured.true in
     let answered = stretches_refused xs args.at args.out.now list sized refused in
     record {
       value = answered.answer;
@@ -50,7 +47,6 @@ write_frames-requires c =
     let n = length args.out.now in
     let sized = sized_by xs n _ true c.is_sized.ensures c.if-not-is_sized.false in
     record {
-      syncs_value = c.sync_table-syncs.ensures;
       stream_len_bound = sized_capture xs n sized;
       out_len = sized_buffer xs n sized;
     }
@@ -62,9 +58,8 @@ write_stretches-requires c =
     let n = length args.out.now in
     let sized = sized_by xs n _ true c.is_sized.ensures c.if-not-is_sized.false in
     record {
-      syncs_value = c.sync_table-syncs.ensures;
       stream_len_bound = sized_capture xs n sized;
-      at_in_bounds = omega (arith, c.count-tally.ensures.stretches_value, c.if-stretches-tally.false);
+      at_in_bounds = omega (arith, c.count-captured.ensures.stretches_value, c.if-stretches-captured.false);
     }
 
 pub returns : goal.returns
@@ -74,8 +69,8 @@ returns c =
     let out = args.out.now in
     let list = args.stretches.now in
     let sized = sized_by xs (length out) _ true c.is_sized.ensures c.if-not-is_sized.false in
-    let fits = few_enough xs args.at (length list) _ c.count-tally.ensures.stretches_value c.if-stretches-tally.false in
-    let answered = read_through xs args.at out list sized fits _ _ _ _ c.count-tally.ensures.frames_value c.count-tally.ensures.stretches_value c.write_frames.ensures c.write_stretches.ensures in
+    let fits = few_enough xs args.at (length list) _ c.count-captured.ensures.stretches_value c.if-stretches-captured.false in
+    let answered = read_through xs args.at out list sized fits _ _ _ c.count-captured.ensures.frames_value c.count-captured.ensures.stretches_value c.write_frames.ensures c.write_stretches.ensures in
     record {
       value = answered.answer;
       result_value = answered.number;

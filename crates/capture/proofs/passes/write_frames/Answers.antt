@@ -1,83 +1,47 @@
 -- `capture::passes::write_frames` meets its contract. The loop keeps the bytes laid so far, and what is left of them. Assumes nothing.
-use mathlib.Core.Path.{◌≡◌, refl, subst, ◌∙◌}
-use mathlib.Core.Bool.{true}
-use mathlib.Core.List.{List, ◌++◌}
-use Prim.Native.Nat.{ℕ, ◌+◌, ◌-◌, ◌<◌, ◌≤◌}
-use native.Mathlib.Omega.{arith}
-use lib.ListN.{length, take, drop, length-drop}
-use lib.Seq.{length-take-le}
-use Rattle.lists.proofs.Front.{Laid, laid_none, laid_length, laid_all}
-use Rattle.layout.specs.Lengths.{frame_bits, frame_bytes}
-use Rattle.framing.specs.Frames.{bit_count, frame_at, frames_from, bytes_of_frame, bytes_of}
+use Rattle.std.proofs.Common.{◌+◌, ap, subst, ◌∙◌, arith, List, ◌++◌, ℕ, length}
+use Rattle.std.proofs.lemmas.List.Edits.{sets}
+use Rattle.lists.proofs.Front.{Laid, laid_none, laid_all}
+use Rattle.layout.specs.Lengths.{frame_bits}
+use Rattle.framing.specs.Frames.{frames_from, bytes_of_frame, bytes_of}
 use Rattle.framing.specs.Inner.{NextFrame}
 use Rattle.framing.proofs.Frames.{frames-room}
-use Rattle.framing.proofs.Steps.{next_here}
-use Rattle.capture.proofs.Turns.{bytes-found, bytes_turn, bytes_end, found_end}
-use Rattle.capture.proofs.Laying.{bytes-length, frame_room, frame_laid}
+use Rattle.capture.proofs.Turns.{found_end, bytes_turn, bytes_end}
+use Rattle.capture.proofs.Laying.{piece-room, piece_laid, frame_length, bytes-length}
 use Rattle.capture.proofs.passes.write_frames.Goals as goal
 
--- the frame that was found, and room for its bytes
-module _ (xs : List ℕ) {frame : ℕ} (found : frame < bit_count xs → frame_at xs frame ≡ true) (h : frame < bit_count xs) where
-  here : NextFrame xs frame frame
-  here = next_here xs frame found
-
-  module _ {all old out : List ℕ} {n : ℕ} (l : Laid all old out (bytes_of xs (frames_from xs frame)) n) where
-    has_room : n + frame_bytes ≤ length out
-    has_room = frame_room xs frame (bytes_of xs (frames_from xs (frame + frame_bits))) (subst (λ (x : List ℕ). Laid all old out x n) (bytes-found xs here h) l)
-
-    part_long : (k : ℕ) → k ≡ frame_bytes → length (take k (drop n out)) ≡ frame_bytes
-    part_long k e = length-take-le k (drop n out) (omega (arith, has_room, length-drop n out)) ∙ e
-
-    -- its bytes v are laid in the part that was lent, and the next frame is looked for
-    laid_next :
-        {after : ℕ} → NextFrame xs (frame + frame_bits) after → (v : List ℕ) (k m : ℕ) → v ≡ bytes_of_frame xs frame → k ≡ frame_bytes → m ≡ n + frame_bytes
-        → Laid all old (take n out ++ (v ++ drop k (drop n out))) (bytes_of xs (frames_from xs after)) m
-    laid_next {after} next v k m e ek em =
-        frame_laid xs frame (bytes_of xs (frames_from xs after)) (subst (λ (x : List ℕ). Laid all old out x n) (bytes_turn xs here h next) l) v k m e ek em
+-- the next frame's bytes are laid next
+turned :
+    (xs : List ℕ) {all old out : List ℕ} {n from frame : ℕ} → NextFrame xs from frame → Laid all old out (bytes_of xs (frames_from xs from)) n
+    → Laid all old out (bytes_of_frame xs frame ++ bytes_of xs (frames_from xs (frame + frame_bits))) n
+turned xs {all} {old} {out} {n} next l = subst (λ x. Laid all old out x n) (bytes_turn xs next) l
 
 pub loop-frame-init : goal.loop-frame-init
 loop-frame-init c =
     let xs = c.args.stream.now in
-    let next = c.next_frame-frame.ensures in
-    let all = frames_from xs c.args.at in
-    let fits : length (bytes_of xs all) ≤ length c.args.out.now = omega (arith, bytes-length xs all, frames-room xs c.args.at, c.requires.out_len) in
-    let out = c.args.out.now in
-    (next.found, subst (λ (ps : List ℕ). Laid (bytes_of xs all) out out (bytes_of xs ps) 0) next.same (laid_none (bytes_of xs all) out fits))
-
-pub overflow_add-end : goal.overflow_add-end
-overflow_add-end c = omega (arith, has_room c.args.stream.now c.loop-frame.invariant.0 (omega arith) c.loop-frame.invariant.1, laid_length c.loop-frame.invariant.1)
-
-pub slice_bounds-read_frame-end : goal.slice_bounds-read_frame-end
-slice_bounds-read_frame-end c = omega (arith, has_room c.args.stream.now c.loop-frame.invariant.0 (omega arith) c.loop-frame.invariant.1)
+    let fits = bytes-length xs (frames_from xs c.args.at) in
+    laid_none _ _ (omega (arith, fits, frames-room xs c.args.at, c.requires.out_len))
 
 pub read_frame-requires : goal.read_frame-requires
-read_frame-requires c =
+read_frame-requires c = omega (arith, found_end c.args.stream.now c.in-Some.ensures)
+
+pub put-requires : goal.put-requires
+put-requires c =
     let xs = c.args.stream.now in
-    let end = found_end xs (here xs c.loop-frame.invariant.0 (omega arith)) (omega arith) in (
-      c.main_table-words.ensures,
-      c.sub_table-substitutes.ensures,
-      c.word_index-index.ensures,
-      omega (arith, end),
-      part_long xs c.loop-frame.invariant.0 (omega arith) c.loop-frame.invariant.1 (c.loop-frame.done + frame_bytes - c.loop-frame.done) (omega arith),
-    )
+    omega (arith, piece-room (bytes_of_frame xs c.in-Some.frame) _ (turned xs c.in-Some.ensures c.loop-frame.invariant), ap length c.read_frame.ensures)
+
+pub overflow_add-from : goal.overflow_add-from
+overflow_add-from c = omega (arith, found_end c.args.stream.now c.in-Some.ensures, c.requires.stream_len_bound)
 
 pub loop-frame-smaller : goal.loop-frame-smaller
-loop-frame-smaller c = omega (arith, c.next_frame-frame-in-loop-frame.ensures.forward)
+loop-frame-smaller c = omega (arith, found_end c.args.stream.now c.in-Some.ensures, c.in-Some.ensures.forward)
 
 pub loop-frame-preserved : goal.loop-frame-preserved
 loop-frame-preserved c =
     let xs = c.args.stream.now in
-    let found : c.loop-frame.frame < bit_count xs = omega (arith, c.loop-frame-test.true) in
-    let done = c.loop-frame.done in
-    let part : done + frame_bytes - done ≡ frame_bytes = omega arith in
-    let next = c.next_frame-frame-in-loop-frame.ensures in
-    (next.found, laid_next xs c.loop-frame.invariant.0 found c.loop-frame.invariant.1 next _ (done + frame_bytes - done) (done + frame_bytes) c.read_frame.ensures part refl)
-
-pub shape_of-out : goal.shape_of-out
-shape_of-out c = laid_length c.loop-frame.invariant.1
+    let own = bytes_of_frame xs c.in-Some.frame in
+    let is = c.put.ensures ∙ ap (sets c.loop-frame.out c.loop-frame.done) c.read_frame.ensures in
+    piece_laid own _ (turned xs c.in-Some.ensures c.loop-frame.invariant) _ _ is (omega (arith, frame_length xs c.in-Some.frame))
 
 pub returns : goal.returns
-returns c =
-    let xs = c.args.stream.now in
-    let past : bit_count xs ≤ c.loop-frame.frame = omega arith in
-    laid_all c.loop-frame.invariant.1 (bytes_end xs (next_here xs c.loop-frame.frame c.loop-frame.invariant.0) past)
+returns c = laid_all c.loop-frame.invariant (bytes_end c.args.stream.now _ c.in_default.ensures)

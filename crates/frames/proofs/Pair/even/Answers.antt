@@ -1,7 +1,7 @@
--- `frames::step::even` meets its contract.
+-- `frames::Pair::even` meets its contract.
 -- Assumes nothing.
-use Rattle.frames.proofs.Buffers.{even_none, even_first, even_second}
-use Rattle.frames.proofs.step.even.Goals as goal
+use Rattle.frames.proofs.Copies.{even_none, even_first, even_second}
+use Rattle.frames.proofs.Pair.even.Goals as goal
 
 pub returns-then-not-copy : goal.returns-then-not-copy
 returns-then-not-copy c = even_none (c.if-not-copy.true) c.requires

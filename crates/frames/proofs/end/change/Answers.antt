@@ -12,7 +12,7 @@ returns-then-absolute c =
     closes_new
     (record {
       state = c.requires.state;
-      code = c.requires.code_bound;
+      code = c.requires.code;
       out = sym c.is_beyond.ensures ∙ c.if-not-is_beyond.false;
       h_is = c.other_code-first.ensures;
       o_is = c.recount-other.ensures;
@@ -24,7 +24,7 @@ returns c =
     closes-same
     (record {
       state = c.requires.state;
-      code = c.requires.code_bound;
+      code = c.requires.code;
       out = sym c.is_beyond.ensures ∙ c.if-not-is_beyond.false;
       h_is = c.other_code-first.ensures;
       o_is = c.recount-other.ensures;

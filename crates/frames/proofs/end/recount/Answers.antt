@@ -9,22 +9,13 @@ use Rattle.frames.proofs.Ended.{recount_one, recount_more, recount_all, room_nex
 use Rattle.frames.proofs.end.recount.Goals as goal
 
 pub half-running-requires : goal.half-running-requires
-half-running-requires c = record {
-  levels_value = c.requires.levels_value;
-  room = room-le _ 16 frame_bits (omega arith) c.requires.room;
-}
+half-running-requires c = room-le _ 16 frame_bits (omega arith) c.requires
 
 pub loop-i-init : goal.loop-i-init
-loop-i-init c = (omega arith, (omega arith, (room_next _ _ _ frame_bits (16 * 92) refl c.requires.room c.half-running.ensures, recount_one _ _)))
-
-pub half_at-requires : goal.half_at-requires
-half_at-requires c = omega (arith, c.requires.buffer_len)
+loop-i-init c = (room_next _ _ _ frame_bits (16 * 92) refl c.requires c.half-running.ensures, recount_one _ _)
 
 pub half-running-requires-in-loop-i : goal.half-running-requires-in-loop-i
-half-running-requires-in-loop-i c = record {
-  levels_value = c.requires.levels_value;
-  room = room-le _ 16 (16 * (frame_halves - c.loop-i.i)) (omega arith) c.loop-i.invariant.1.1.0;
-}
+half-running-requires-in-loop-i c = room-le _ 16 (16 * (frame_halves - c.loop-i.i)) (omega arith) c.loop-i.invariant.0
 
 pub loop-i-preserved : goal.loop-i-preserved
 loop-i-preserved c =
@@ -32,12 +23,12 @@ loop-i-preserved c =
     let v = c.loop-i.invariant in
     let step = c.half-running-in-loop-i.ensures in
     let left = 16 * (frame_halves - (i + 1)) in
-    let fewer = room_next _ _ _ (16 * (frame_halves - i)) left (omega arith) v.1.1.0 step in
+    let fewer = room_next _ _ _ (16 * (frame_halves - i)) left (omega arith) v.0 step in
     let more =
-    recount_more _ _ _ _ i _ v.0 (omega arith) c.requires.buffer_len c.half_at.ensures step v.1.1.1 in
-    (omega arith, (omega arith, (fewer, more)))
+    recount_more _ _ _ _ i _ (omega arith) (omega arith) c.told-buffer c.half_at.ensures step v.1 in
+    (fewer, more)
 
 pub returns : goal.returns
 returns c =
-    recount_all c.args.start _ _ _ c.loop-i.i c.args.first (omega arith) c.requires.buffer_len
-    c.half-running.ensures c.loop-i.invariant.1.1.1
+    recount_all c.args.start _ _ _ c.loop-i.i c.args.first (omega arith) c.told-buffer
+    c.half-running.ensures c.loop-i.invariant.1

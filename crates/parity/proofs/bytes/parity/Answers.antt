@@ -10,4 +10,4 @@ pub returns : goal.returns
 returns g c =
     let p : ℕ = g.row.P in
     let d = c.args.d.now in
-    c.unpack.ensures ∙ ap (λ r. take p (unpacked r)) c.divide.ensures ∙ unpacked-register p (parity p d) (parity_small p d) (parity-size p d) c.args.table.now.fits
+    c.unpack.ensures ∙ ap (λ r. take p (unpacked r)) c.divide-left.ensures ∙ unpacked-register p (parity p d) (parity_small p d) (parity-size p d) c.args.table.now.fits
