@@ -29,7 +29,7 @@ pub record Meets (xs ms old : List ℕ) (r : Result Repair BlockRefusal) (ys new
   pub main : new ≡ main_after xs ms old
 
 -- number and frame follow from the answer
-meets :
+pub meets :
     (xs ms old : List ℕ) (r : Result Repair BlockRefusal) (ys new : List ℕ) → r ≡ repair_answer xs ms (length old) → ys ≡ block_after xs ms (length old)
     → new ≡ main_after xs ms old → Meets xs ms old r ys new
 meets xs ms old r ys new a b m = record {

@@ -47,7 +47,7 @@ impl Columns<'_> {
         ensures { result ≡ tabulate (syndrome (column_of block.now j)) outer_size }
     {
         let left = self.registers[j].plus_last(&layout::column_end(block, j));
-        syndromes::syndromes(self.logs, left)
+        reedsolomon::syndromes(self.logs, left)
     }
 }
 
@@ -69,7 +69,7 @@ impl Words for Columns<'_> {
         block: &mut [u8; BLOCK_SIZE],
     ) -> Outcome {
         let syndromes = self.syndromes(k, block);
-        if syndromes::all_zero(&syndromes) {
+        if reedsolomon::all_zero(&syndromes) {
             return Outcome::Clean;
         }
         let bytes = layout::column_at(block, k);

@@ -3,7 +3,7 @@
 #![tactic(auto)]
 
 ghost use Rattle.std.specs.Prelude.{◌≡◌, ◌<◌, length};
-ghost use Rattle.layout.specs.Lengths.{row_count, main_size};
+ghost use Rattle.layout.specs.Lengths.{row_count};
 ghost use Rattle.repairer.specs.Answer.{of_block, marks_fit, repair_answer, block_after, main_after, repair_refusal, refused_frame, block_answer_number, block_answer_frame};
 ghost use Rattle.repairer.specs.Inner.{counted};
 
@@ -100,13 +100,13 @@ pub fn marks_fit(erasures: &[u8]) -> bool
 
 // The block repairer, where the lengths are as stated. The tables are made once a block and lent from there on. The main data
 // buffer is written only when every frame has passed.
-fn repair(
+fn repair_sized(
     block: &mut [u8; BLOCK_SIZE],
     erasures: &[u8; BLOCK_SIZE],
     main: &mut [u8; MAIN_SIZE],
 ) -> Result<Repair, BlockRefusal>
-    ensures value { result ≡ repair_answer block.old erasures.now main_size }
-    ensures block_after { block.new ≡ block_after block.old erasures.now main_size }
+    ensures value { result ≡ repair_answer block.old erasures.now (length main.old) }
+    ensures block_after { block.new ≡ block_after block.old erasures.now (length main.old) }
     ensures main_after { main.new ≡ main_after block.old erasures.now main.old }
 {
     if !marks_fit(erasures) {
@@ -153,5 +153,5 @@ pub fn repair_block(
     let Some(main) = main.as_mut_array::<MAIN_SIZE>() else {
         return Err(Refusal::Length.into());
     };
-    repair(block, erasures, main)
+    repair_sized(block, erasures, main)
 }

@@ -28,7 +28,10 @@ impl Rows<'_> {
     {
         let at = q * ROW_SIZE;
         let end = at + ROW_SIZE;
-        syndromes::syndromes(self.logs, division::remainder_of(self.table, &block[at..end]))
+        reedsolomon::syndromes(
+            self.logs,
+            division::remainder_of(self.table, &block[at..end]),
+        )
     }
 }
 
@@ -51,7 +54,7 @@ impl Words for Rows<'_> {
     ) -> Outcome {
         let syndromes = self.syndromes(k, block);
         let marks = layout::row_at(erasures, k);
-        if reedsolomon::count_erasures(&marks) <= INNER_SIZE && syndromes::all_zero(&syndromes) {
+        if reedsolomon::count_erasures(&marks) <= INNER_SIZE && reedsolomon::all_zero(&syndromes) {
             return Outcome::Clean;
         }
         let bytes = layout::row_at(block, k);

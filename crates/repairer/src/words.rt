@@ -21,12 +21,7 @@ pub(crate) trait Words {
         ensures { result ≡ count_of axis };
 
     // Word k repaired in its place, and what became of it.
-    fn repair(
-        &self,
-        erasures: &[u8; BLOCK_SIZE],
-        k: usize,
-        block: &mut [u8; BLOCK_SIZE],
-    ) -> Outcome
+    fn repair(&self, erasures: &[u8; BLOCK_SIZE], k: usize, block: &mut [u8; BLOCK_SIZE]) -> Outcome
         requires { (k < count_of axis) × Divided axis block.old (registers self.now) k }
         ensures value { result ≡ outcome_of_word axis erasures.now block.old k }
         ensures stored { Stored (place_of axis k)

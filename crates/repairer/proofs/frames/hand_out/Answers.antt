@@ -11,10 +11,10 @@ pub loop-k-preserved : goal.loop-k-preserved
 loop-k-preserved c =
     let f = c.unscramble-frame.result in
     let e = c.unscramble-frame.ensures ∙ ap unscrambled c.frame_at.ensures in
-    let size : length f ≡ 2064 = search rules in 
-    main_more c.args.block.now c.args.main.now c.loop-k.main _ f c.loop-k.k e size (omega (arith, c.requires.main_len)) c.put.ensures c.loop-k.invariant
+    let size : length f ≡ 2064 = search rules in
+    main_more c.args.block.now c.args.main.now c.loop-k.main _ f c.loop-k.k e size (omega (arith, c.told-main)) c.put.ensures c.loop-k.invariant
 
 pub returns : goal.returns
 returns c =
     let e : c.loop-k.k ≡ 16 = omega arith in
-    main_all c.args.block.now _ c.loop-k.main c.requires.main_len (rw e at c.loop-k.invariant)
+    main_all c.args.block.now _ c.loop-k.main c.told-main (rw e at c.loop-k.invariant)

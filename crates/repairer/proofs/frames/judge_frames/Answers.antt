@@ -14,18 +14,18 @@ pub returns-in-Err : goal.returns-in-Err
 returns-in-Err c =
     let ys = c.args.block.now in
     let k = c.loop-k.k in
-    let r : c.check.result ≡ frame_answer ys k =
+    let r : c.check_frame.result ≡ frame_answer ys k =
     answer_of ys k _ _ c.frame_at-frame0.result c.frame_at-frame.result c.sector_number-first.result _ _ c.frame_at-frame0.ensures
-    c.sector_number-first.ensures refl c.frame_at-frame.ensures c.check.ensures c.from.ensures c.from-in-loop-k.ensures in
+    c.sector_number-first.ensures refl c.frame_at-frame.ensures c.check_frame.ensures c.from.ensures c.from-in-loop-k.ensures in
     sym (c.loop-k.invariant ∙ frame_fails ys k (Ok (repair_of ys c.args.tallies)) (omega arith) _ r _ c.in-Err.is)
 
 pub loop-k-preserved : goal.loop-k-preserved
 loop-k-preserved c =
     let ys = c.args.block.now in
     let k = c.loop-k.k in
-    let r : c.check.result ≡ frame_answer ys k =
+    let r : c.check_frame.result ≡ frame_answer ys k =
     answer_of ys k _ _ c.frame_at-frame0.result c.frame_at-frame.result c.sector_number-first.result _ _ c.frame_at-frame0.ensures
-    c.sector_number-first.ensures refl c.frame_at-frame.ensures c.check.ensures c.from.ensures c.from-in-loop-k.ensures in
+    c.sector_number-first.ensures refl c.frame_at-frame.ensures c.check_frame.ensures c.from.ensures c.from-in-loop-k.ensures in
     c.loop-k.invariant ∙ frame_passes ys k (Ok (repair_of ys c.args.tallies)) (omega arith) _ r _ c.in_default.is
 
 pub returns : goal.returns
