@@ -67,7 +67,7 @@ impl CodeWords {
     {
         let mut byte = at / 4;
         let mut column = (at % 4) as u8;
-        'found: loop {
+        'found: {
             for t in table..2 {
                 let n = bytes_of(t);
                 for b in byte..n {
@@ -82,7 +82,7 @@ impl CodeWords {
                 byte = 0;
                 column = 0;
             }
-            break 'found None;
+            None
         }
     }
 

@@ -4,7 +4,7 @@ use mathlib.Core.Path.{◌≡◌, refl, sym, ap, ap₂, ◌∙◌}
 use mathlib.Core.Bool.{Bool, true, false, cond}
 use mathlib.Core.List.{List, [], ◌∷◌}
 use Prim.Native.Nat.{ℕ, zero, suc, ◌+◌, ◌*◌, ◌-◌, ◌<◌, ◌≤◌}
-use native.Mathlib.Nat.{le_refl, mul-le-mul_right}
+use native.Mathlib.Nat.{mul-le-mul_right}
 use native.Mathlib.Numerals.{add-one}
 use native.Mathlib.Omega.{arith}
 use mathlib.Core.Logic.{dite}
@@ -12,6 +12,10 @@ use native.Mathlib.Decide.{ℕ_discrete}
 use borrow.Author.Tests.{eq-eqb, ne_eqb}
 use lib.ListN.{length, get_or, take, drop, replicate, drop_of_length-le, get_or-eq_default}
 use lib.Seq.{drop-cons}
+use Rattle.std.proofs.Common.{reverse}
+use Rattle.std.specs.List.{fold}
+use Rattle.std.proofs.lemmas.Grind.{reverse_onto}
+use Rattle.std.proofs.lemmas.List.Sums.{fold_push}
 use Rattle.lists.specs.Fill.{tabulate}
 use Rattle.lists.proofs.Fill.{length-tabulate, get_d_tabulate}
 use Rattle.field.specs.Field.{add, mul, pow}
@@ -36,15 +40,12 @@ dot_end c S i j sum h = ap (λ (l : List ℕ). add sum (dot l S (i + j))) (drop_
 
 -- ---- the value of a polynomial, from the end on
 
-pub poly_start : (c : List ℕ) (x : ℕ) → poly_at (drop (length c) c) x ≡ 0
+pub poly-fold : (x : ℕ) (c : List ℕ) → fold (λ (v p : ℕ). add p (mul x v)) 0 (reverse c) ≡ poly_at c x
 unfolding poly_at
-poly_start c x = ap (λ (l : List ℕ). poly_at l x) (drop_of_length-le c (le_refl (length c)))
-
-pub poly_next : (c : List ℕ) (x i v : ℕ) → 0 < i → i ≤ length c → v ≡ poly_at (drop i c) x → add (get_or c (i - 1) 0) (mul x v) ≡ poly_at (drop (i - 1) c) x
-unfolding poly_at
-poly_next c x i v p h e =
-    let k : suc (i - 1) ≡ i = omega arith in
-    ap (λ (y : ℕ). add (get_or c (i - 1) 0) (mul x y)) (e ∙ ap (λ (n : ℕ). poly_at (drop n c) x) (sym k)) ∙ sym (ap (λ (l : List ℕ). poly_at l x) (drop-cons c (i - 1) 0 (omega arith)))
+poly-fold x [] = refl
+poly-fold x (a ∷ c) =
+    ap (fold (λ (v p : ℕ). add p (mul x v)) 0) (reverse_onto c a [])
+    ∙ fold_push (λ (v p : ℕ). add p (mul x v)) 0 (reverse c) a ∙ ap (λ (v : ℕ). add a (mul x v)) (poly-fold x c)
 
 -- ---- the marked places, taken out of the syndromes one after the other
 
@@ -96,8 +97,8 @@ take-zeros zero n h = refl
 take-zeros (suc k) zero h = absurd (omega arith)
 take-zeros (suc k) (suc n) h = ap (λ (l : List ℕ). 0 ∷ l) (take-zeros k n (omega arith))
 
-pub pivots_fit : (t : ℕ) → t ≤ 5 → t * (t + 1) ≤ 30
-pivots_fit t h = let a : t * (t + 1) ≤ 5 * (t + 1) = mul-le-mul_right (t + 1) h in omega arith
+pub pivots_fit : (t : ℕ) → t ≤ 8 → t * (t + 1) ≤ 72
+pivots_fit t h = let a : t * (t + 1) ≤ 8 * (t + 1) = mul-le-mul_right (t + 1) h in omega arith
 
 -- ---- the value of an error: the other errors taken out of the syndromes, one after the other
 

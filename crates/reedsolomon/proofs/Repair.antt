@@ -1,5 +1,5 @@
 -- The repair of a word of n bytes with p roots and its marks: one text, which the functions of rows and of columns cite.
---   Shape n p                                       what the two numbers have to do with one another; row_shape, column_shape: rows and columns have it
+--   Shape n p                                       what the two numbers have to do with one another; row_shape, column_shape, shape_of: rows and columns have it
 --   word_syndromes                                  the syndromes of a word, from what is left of it by the generator
 --   word_overfull                                   more marks than roots
 --   word_clean, word_corrected, word_uncorrectable  what the syndromes of the word and of the mended word decide
@@ -9,6 +9,7 @@
 use mathlib.Core.Path.{◌≡◌, sym, ap, ◌∙◌}
 use mathlib.Core.Bool.{Bool, true, false}
 use mathlib.Core.List.{List}
+use mathlib.Core.Logic.{inl, inr}
 use Prim.Native.Nat.{ℕ, ◌+◌, ◌-◌, ◌/◌, ◌<◌, ◌≤◌}
 use native.Mathlib.Omega.{arith}
 use lib.Dec.{eqb}
@@ -30,10 +31,11 @@ use Rattle.codes.proofs.Erasures.{nearest-unmarked, outcome_unmarked}
 use Rattle.codes.proofs.Decision.{Repaired, all_zero-is_code, overfull, clean, corrected, uncorrectable}
 use Rattle.codes.proofs.Light.{LightRepaired, light_general, light_unmarked, light_corrected}
 use Rattle.layout.specs.Lengths.{row_count, row_size, inner_size, outer_size}
-use Rattle.multiples.specs.Inner.{high, low}
-use Rattle.division.specs.Inner.{remainder_of, unpacked}
+use Rattle.division.specs.Inner.{packed, remainder_of, unpacked}
+use Rattle.division.specs.declared.register.Remainder.{Remainder}
 use Rattle.division.proofs.Division.{zeros-place}
 use Rattle.syndromes.proofs.Left.{syndromes_left}
+use Rattle.reedsolomon.specs.Inner.{Sizes}
 
 -- words of n bytes with p roots
 pub record Shape (n p : ℕ) : Type 0 where
@@ -49,12 +51,14 @@ row_shape = record { roots = ten_roots; few = omega arith; holds = omega arith; 
 pub column_shape : Shape row_count outer_size
 column_shape = record { roots = sixteen_roots; few = omega arith; holds = omega arith; short = omega arith }
 
+-- either of them
+pub shape_of : (n p : ℕ) → Sizes n p → Shape n p
+shape_of n p s = elim s [ inl (en, ep) ↦ rw (en, ep) row_shape | inr (en, ep) ↦ rw (en, ep) column_shape ]
+
 module _ {n p : ℕ} (shape : Shape n p) (w : List ℕ) (size : length w ≡ n) (hw : Bytes w) where
-  -- h and l are what is left of the word, and s the syndromes of that
-  pub word_syndromes :
-      (h l : ℕ) (s : List ℕ) → h ≡ high (remainder_of p w) → l ≡ low (remainder_of p w) → s ≡ tabulate (syndrome (take p (unpacked h l))) p
-      → s ≡ tabulate (syndrome w) p
-  word_syndromes h l s eh el es = es ∙ syndromes_left p shape.roots shape.few w hw (omega (arith, shape.holds)) h l eh el
+  -- r is what is left of the word, and s the syndromes of that
+  pub word_syndromes : (r : Remainder) (s : List ℕ) → r ≡ packed (remainder_of p w) → s ≡ tabulate (syndrome (take p (unpacked r))) p → s ≡ tabulate (syndrome w) p
+  word_syndromes r s er es = es ∙ syndromes_left p shape.roots shape.few w hw (omega (arith, shape.holds)) r er
 
   -- m are the marks of its bytes, and f of them are marked
   module _ (m : List ℕ) (sized : length m ≡ n) (f : ℕ) (ef : f ≡ erasure_count m n) where

@@ -8,10 +8,12 @@ mod locate;
 mod mend;
 mod row;
 mod search;
+mod word;
 
 pub use codes::Outcome;
 pub use column::{Column, correct_column, correct_column_from, correct_column_with};
 pub use erasures::count_erasures;
-pub use parity::{parity2, parity2_with, parity10, parity10_with, parity16, parity16_with};
+pub use parity::{parity, parity2, parity2_with, parity10, parity16};
 pub use row::{Row, correct_row, correct_row_from, correct_row_with};
-pub use syndromes::{all_zero, syndromes10, syndromes16};
+pub use syndromes::{all_zero, syndromes};
+pub use word::Word;

@@ -2,61 +2,52 @@
 // x^2, .. the first is taken that does so once multiples of those before it are added; one that cannot is kept, as the
 // pivot of the first equation it fails.
 ghost use Rattle.std.specs.Prelude.{◌≡◌, ℕ, ◌+◌, ◌-◌, ◌*◌, ◌<◌, ◌≤◌, length, take, replicate};
-ghost use Rattle.field.specs.Inner.{LogTable};
+ghost use Rattle.lists.specs.Bytes.{Bytes};
 ghost use Rattle.codes.specs.Inner.{at, dot, mix, unit, Locator, Pivots, Candidate, Cleared};
 
+use field::Logs;
+
 // p 0 * S i + p 1 * S (i + 1) + .. over the coefficients p and the syndromes S: 0 where key equation i holds of the polynomial.
-fn equation(logs: &[u8; 768], polynomial: &[u8], syndromes: &[u8], i: usize) -> u8
-    requires log_table { LogTable logs.now }
-    requires polynomial_in_bounds { i + length polynomial.now ≤ length syndromes.now }
+fn equation(logs: &Logs, polynomial: &[u8], syndromes: &[u8], i: usize) -> u8
+    requires { i + length polynomial.now ≤ length syndromes.now }
     ensures { result ≡ dot polynomial.now (at syndromes.now) i }
 {
     let mut sum: u8 = 0;
-    let mut j: usize = 0;
-    while j < polynomial.len() {
-        sum = sum ^ field::product(logs, polynomial[j], syndromes[i + j]);
-        j += 1;
+    for (j, p) in polynomial.iter().enumerate() {
+        sum ^= logs.product(*p, syndromes[i + j]);
     }
     sum
 }
 
 // A multiple of the pivot, added to the candidate.
-fn add_multiple(logs: &[u8; 768], factor: u8, pivot: &[u8], candidate: &mut [u8])
-    requires log_table { LogTable logs.now }
-    requires pivot_len { length pivot.now ≡ length candidate.old }
+fn add_multiple(logs: &Logs, factor: u8, pivot: &[u8], candidate: &mut [u8])
+    requires { length pivot.now ≡ length candidate.old }
     ensures { candidate.new ≡ mix factor pivot.now candidate.old }
 {
-    let mut j: usize = 0;
-    while j < candidate.len() {
-        candidate[j] = candidate[j] ^ field::product(logs, factor, pivot[j]);
-        j += 1;
+    for (j, p) in pivot.iter().enumerate() {
+        candidate[j] ^= logs.product(factor, *p);
     }
 }
 
 // x^k.
 fn set_unit(candidate: &mut [u8], k: usize)
+    requires { k < length candidate.old }
     ensures { candidate.new ≡ unit (length candidate.old) k }
 {
-    let mut j: usize = 0;
-    while j < candidate.len() {
-        candidate[j] = if j == k { 1 } else { 0 };
-        j += 1;
-    }
+    candidate.fill(0);
+    candidate[k] = 1;
 }
 
-// Equation i, whose pivot starts at `a`: true where it holds of the candidate, with a multiple of the pivot added if need be; false
-// where the candidate became its pivot.
+// Equation i: true where it holds of the candidate, with a multiple of the equation's pivot added if need be; false where the candidate
+// became its pivot.
 fn clear_equation(
-    logs: &[u8; 768],
+    logs: &Logs,
     syndromes: &[u8],
     pivots: &mut [u8],
     candidate: &mut [u8],
     i: usize,
-    a: usize,
 ) -> bool
-    requires { LogTable logs.now
-        × (a ≡ i * length candidate.old)
-        × (a + length candidate.old ≤ length pivots.old)
+    requires { (i * length candidate.old + length candidate.old ≤ length pivots.old)
         × (i + length candidate.old ≤ length syndromes.now) }
     ensures { (e k : ℕ)
         → i < e
@@ -69,26 +60,21 @@ fn clear_equation(
     if d == 0 {
         return true;
     }
+    let a = i * candidate.len();
     let end = a + candidate.len();
     let e = equation(logs, &pivots[a..end], syndromes, i);
     if e == 0 {
-        octets::put(pivots, a, candidate);
+        pivots[a..end].copy_from_slice(candidate);
         return false;
     }
-    let f = field::product(logs, d, field::inverse_of(logs, e));
+    let f = logs.quotient(d, e);
     add_multiple(logs, f, &pivots[a..end], candidate);
     true
 }
 
 // The equations in turn: true where all hold of the candidate, false where it became a pivot.
-fn clear_equations(
-    logs: &[u8; 768],
-    syndromes: &[u8],
-    pivots: &mut [u8],
-    candidate: &mut [u8],
-) -> bool
-    requires { LogTable logs.now
-        × (0 < length candidate.old)
+fn clear_equations(logs: &Logs, syndromes: &[u8], pivots: &mut [u8], candidate: &mut [u8]) -> bool
+    requires { (0 < length candidate.old)
         × (length pivots.old ≡ (length candidate.old - 1) * length candidate.old)
         × (length candidate.old + length candidate.old ≤ length syndromes.now + 2) }
     ensures { (k : ℕ)
@@ -99,42 +85,29 @@ fn clear_equations(
         (length candidate.old) k (length candidate.old - 1) pivots.old
         pivots.new candidate.new result }
 {
-    let w = candidate.len();
-    let mut i: usize = 0;
-    let mut a: usize = 0;
-    while i < w - 1 {
-        if !clear_equation(logs, syndromes, pivots, candidate, i, a) {
+    for i in 0..candidate.len() - 1 {
+        if !clear_equation(logs, syndromes, pivots, candidate, i) {
             return false;
         }
-        i += 1;
-        a += w;
     }
     true
 }
 
 // A locator for the syndromes, and its degree: what stands in the buffer as far as there. `pivots` is scratch, filled with zeros.
-pub(crate) fn locate(
-    logs: &[u8; 768],
-    syndromes: &[u8],
-    pivots: &mut [u8],
-    locator: &mut [u8],
-) -> usize
-    requires { LogTable logs.now
-        × (0 < length locator.old)
+pub(crate) fn locate(logs: &Logs, syndromes: &[u8], pivots: &mut [u8], locator: &mut [u8]) -> usize
+    requires { (0 < length locator.old)
         × (pivots.old ≡ replicate ((length locator.old - 1) * length locator.old) 0)
         × (length locator.old + length locator.old ≤ length syndromes.now + 2) }
     ensures upper_bound { result < length locator.old }
+    ensures bytes { Bytes locator.new }
     ensures locator { Locator (at syndromes.now) (length locator.old - 1)
         (take (result + 1) locator.new) }
 {
-    let w = locator.len();
-    let mut k: usize = 0;
-    while k < w {
+    for k in 0..locator.len() {
         set_unit(locator, k);
         if clear_equations(logs, syndromes, pivots, locator) {
             return k;
         }
-        k += 1;
     }
     0
 }

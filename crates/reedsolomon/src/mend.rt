@@ -1,69 +1,53 @@
 // The values of the errors, and the word without them.
 ghost use Rattle.std.specs.Prelude.{◌≡◌, ◌<◌, length};
 ghost use Rattle.lists.specs.Fill.{tabulate};
-ghost use Rattle.field.specs.Inner.{LogTable};
 ghost use Rattle.codes.specs.Inner.{at, without, error_value, AllBelow, mended};
 
+use field::Logs;
+
 // The error with the locator x drops out of the syndromes: each becomes the next one and x times itself.
-pub(crate) fn take_out(logs: &[u8; 768], syndromes: &mut [u8], x: u8)
-    requires log_table { LogTable logs.now }
-    requires syndromes_nonzero { 0 < length syndromes.old }
+pub(crate) fn take_out(logs: &Logs, syndromes: &mut [u8], x: u8)
+    requires { 0 < length syndromes.old }
     ensures { syndromes.new
         ≡ tabulate (without x (at syndromes.old)) (length syndromes.old) }
 {
     let last = syndromes.len() - 1;
-    let mut i: usize = 0;
-    while i < last {
-        syndromes[i] = syndromes[i + 1] ^ field::product(logs, x, syndromes[i]);
-        i += 1;
+    for i in 0..last {
+        syndromes[i] = syndromes[i + 1] ^ logs.product(x, syndromes[i]);
     }
-    syndromes[last] = field::product(logs, x, syndromes[last]);
+    syndromes[last] = logs.product(x, syndromes[last]);
 }
 
-// The value of error j of the places. `rest` is scratch.
-fn error_value(logs: &[u8; 768], syndromes: &[u8], places: &[u8], j: usize, rest: &mut [u8]) -> u8
-    requires { LogTable logs.now
-        × (0 < length syndromes.now)
-        × (length syndromes.now ≡ length rest.old)
-        × (j < length places.now) }
-    ensures { result ≡ error_value (at syndromes.now) places.now j }
+// The value of error j of the places.
+fn error_value<const P: usize>(logs: &Logs, syndromes: [u8; P], places: &[u8], j: usize) -> u8
+    requires { (0 < P) × (j < length places.now) }
+    ensures { result ≡ error_value (at syndromes.entry) places.now j }
 {
-    octets::put(rest, 0, syndromes);
-    let x = field::alpha_power(logs, places[j]);
+    let mut rest = syndromes;
+    let x = logs.alpha_power(places[j]);
     let mut d: u8 = 1;
-    let mut l: usize = 0;
-    while l < places.len() {
+    for (l, place) in places.iter().enumerate() {
         if l != j {
-            let y = field::alpha_power(logs, places[l]);
-            take_out(logs, rest, y);
-            d = field::product(logs, d, x ^ y);
+            let y = logs.alpha_power(*place);
+            take_out(logs, &mut rest, y);
+            d = logs.product(d, x ^ y);
         }
-        l += 1;
     }
-    field::product(logs, rest[0], field::inverse_of(logs, d))
+    logs.quotient(rest[0], d)
 }
 
-// The word without the errors at the places. `rest` is scratch.
-pub(crate) fn mend(
-    logs: &[u8; 768],
-    syndromes: &[u8],
+// A word with these syndromes, without the errors at the places.
+pub(crate) fn mend<const N: usize, const P: usize>(
+    logs: &Logs,
+    mut bytes: [u8; N],
+    syndromes: [u8; P],
     places: &[u8],
-    rest: &mut [u8],
-    word: &mut [u8],
-)
-    requires { LogTable logs.now
-        × (0 < length syndromes.now)
-        × (length syndromes.now ≡ length rest.old)
-        × AllBelow (length word.old) places.now }
-    ensures { word.new
-        ≡ mended (at syndromes.now) places.now word.old }
+) -> [u8; N]
+    requires { (0 < P) × AllBelow N places.now }
+    ensures { result ≡ mended (at syndromes.entry) places.now bytes.entry }
 {
-    let n = word.len();
-    let mut j: usize = 0;
-    while j < places.len() {
-        let v = error_value(logs, syndromes, places, j, rest);
-        let i = n - 1 - octets::index(places[j]);
-        word[i] = word[i] ^ v;
-        j += 1;
+    for (j, place) in places.iter().enumerate() {
+        bytes[N - 1 - usize::from(*place)] ^= error_value(logs, syndromes, places, j);
     }
+    bytes
 }

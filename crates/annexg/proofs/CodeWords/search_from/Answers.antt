@@ -12,12 +12,9 @@ use Rattle.std.specs.Prelude.{Some}
 use Rattle.annexg.proofs.Search.{from_unfit, from_fit, from_end, from_past}
 use Rattle.annexg.proofs.CodeWords.search_from.Goals as goal
 
-pub found-init : goal.found-init
-found-init c = let a = c.args in
-    (omega arith, ap (read_from a.word a.zero a.table) (omega arith))
-
 pub loop-t-init : goal.loop-t-init
-loop-t-init c = c.found.invariant
+loop-t-init c = let a = c.args in
+    (omega arith, ap (read_from a.word a.zero a.table) (omega arith))
 
 pub loop-b-init : goal.loop-b-init
 loop-b-init c = c.loop-t.invariant

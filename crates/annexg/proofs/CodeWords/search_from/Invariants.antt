@@ -13,9 +13,3 @@ invariant-loop-b l = (l.column ≤ 3) × (read_from l.word l.zero l.table l.at �
 
 abbrev pub invariant-loop-t : goal.invariant-loop-t
 invariant-loop-t l = (l.column ≤ 3) × (read_from l.word l.zero l.table l.at ≡ read_from l.word l.zero l.t (l.byte * 4 + l.column))
-
-abbrev pub invariant-found : goal.invariant-found
-invariant-found l = (l.column ≤ 3) × (read_from l.word l.zero l.table l.at ≡ read_from l.word l.zero l.table (l.byte * 4 + l.column))
-
-abbrev pub decreases-found : goal.decreases-found
-decreases-found l = 0

@@ -1,7 +1,8 @@
 -- `column::correct_column_from` meets its contract: the syndromes decide, of the column and of the mended column; nothing is marked. Assumes nothing.
-use mathlib.Core.Path.{◌≡◌}
+use mathlib.Core.Path.{◌≡◌, refl, sym, ap, ◌∙◌}
 use mathlib.Core.List.{List}
-use Prim.Native.Nat.{ℕ}
+use mathlib.Core.Logic.{inr}
+use Prim.Native.Nat.{ℕ, ◌-◌, ◌/◌}
 use native.Mathlib.Omega.{arith}
 use lib.ListN.{length, get_or, replicate, length-replicate}
 use mir.Val.{Fits}
@@ -10,8 +11,7 @@ use borrow.Author.Rules.{rules}
 use Rattle.lists.specs.Bytes.{Bytes}
 use Rattle.lists.proofs.Bytes.{bytes_of}
 use Rattle.layout.specs.Lengths.{row_count}
-use Rattle.codes.proofs.Decision.{places_below}
-use Rattle.reedsolomon.proofs.Repair.{column_shape, word_clean, word_corrected, word_uncorrectable, zeros-count, unmarked-repaired}
+use Rattle.reedsolomon.proofs.Repair.{column_shape, word_clean, zeros-count, unmarked-repaired}
 use Rattle.reedsolomon.proofs.column.correct_column_from.Goals as goal
 
 bytes : (w : List ℕ) → ((i : ℕ) → Fits w8 (get_or w i 0)) → Bytes w
@@ -28,24 +28,26 @@ pub returns-then-all_zero : goal.returns-then-all_zero
 returns-then-all_zero c =
     let all = unmarked-repaired row_count 8 c.args.column.bytes _ _ (bytes c.args.column.bytes (λ i. search rules))
     (word_clean column_shape c.args.column.bytes (search rules) (bytes c.args.column.bytes (λ i. search rules)) unmarked (unmarked-length) 0 (zeros-count row_count) (omega arith)
-    _ c.requires.2 _ c.all_zero.ensures c.if-all_zero.true) in
+    _ c.requires _ c.all_zero.ensures c.if-all_zero.true) in
     record { bytes_value = all.0; outcome_value = all.1 }
 
-pub column_mend-near-requires : goal.column_mend-near-requires
-column_mend-near-requires c = (c.requires.0, c.column_search-places.ensures.count_in_bounds, places_below _ _ unmarked _ c.column_search-places.ensures.places)
-
-pub returns-then-all_zero-2 : goal.returns-then-all_zero-2
-returns-then-all_zero-2 c =
-    let all = unmarked-repaired row_count 8 c.args.column.bytes _ _ (bytes c.args.column.bytes (λ i. search rules))
-    (word_corrected column_shape c.args.column.bytes (search rules) (bytes c.args.column.bytes (λ i. search rules)) unmarked (unmarked-length) 0 (zeros-count row_count) (omega arith)
-    _ c.requires.2 _ c.all_zero.ensures c.if-all_zero.false
-    _ c.column_search-places.ensures.places _ c.column_mend-near.ensures _ c.column_syndromes-again.ensures _ c.all_zero-2.ensures c.if-all_zero-2.true) in
-    record { bytes_value = all.0; outcome_value = all.1 }
+pub correct_located-requires : goal.correct_located-requires
+correct_located-requires c =
+    let none = zeros-count row_count in (
+      omega arith,
+      (
+        omega arith,
+        (
+          omega arith,
+          (
+            omega arith,
+            (inr (refl, refl), (refl, (omega (arith, none), (ap (λ (f : ℕ). (16 - f) / 2) none, (c.requires, sym c.all_zero.ensures ∙ c.if-all_zero.false))))),
+          ),
+        ),
+      ),
+    )
 
 pub returns : goal.returns
 returns c =
-    let all = unmarked-repaired row_count 8 c.args.column.bytes _ _ (bytes c.args.column.bytes (λ i. search rules))
-    (word_uncorrectable column_shape c.args.column.bytes (search rules) (bytes c.args.column.bytes (λ i. search rules)) unmarked (unmarked-length) 0 (zeros-count row_count) (omega arith)
-    _ c.requires.2 _ c.all_zero.ensures c.if-all_zero.false
-    _ c.column_search-places.ensures.places _ c.column_mend-near.ensures _ c.column_syndromes-again.ensures _ c.all_zero-2.ensures c.if-all_zero-2.false) in
+    let all = unmarked-repaired row_count 8 c.args.column.bytes _ _ (bytes c.args.column.bytes (λ i. search rules)) (c.correct_located.ensures.bytes_value, c.correct_located.ensures.outcome_value) in
     record { bytes_value = all.0; outcome_value = all.1 }

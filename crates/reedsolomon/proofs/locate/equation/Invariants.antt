@@ -1,13 +1,10 @@
 -- `locate::equation` meets its contract. Assumes nothing.
 use mathlib.Core.Path.{◌≡◌}
-use Prim.Native.Nat.{◌+◌, ◌-◌, ◌≤◌}
-use lib.ListN.{length, drop}
+use Prim.Native.Nat.{◌+◌}
+use lib.ListN.{drop}
 use Rattle.field.specs.Field.{add}
 use Rattle.codes.specs.Inner.{at, dot}
 use Rattle.reedsolomon.proofs.locate.equation.Given as goal
 
 abbrev pub invariant-loop-j : goal.invariant-loop-j
-invariant-loop-j l = (l.j ≤ length l.polynomial) × (add l.sum (dot (drop l.j l.polynomial) (at l.syndromes) (l.i + l.j)) ≡ dot l.polynomial (at l.syndromes) l.i)
-
-abbrev pub decreases-loop-j : goal.decreases-loop-j
-decreases-loop-j l = length l.polynomial - l.j
+invariant-loop-j l = add l.sum (dot (drop l.j l.polynomial) (at l.syndromes) (l.i + l.j)) ≡ dot l.polynomial (at l.syndromes) l.i

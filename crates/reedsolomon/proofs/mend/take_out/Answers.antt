@@ -1,4 +1,4 @@
--- `mend::take_out_lem` meets its contract. Assumes nothing.
+-- `mend::take_out` meets its contract. Assumes nothing.
 use mathlib.Core.Path.{◌≡◌, refl, sym, ap, ap₂, ◌∙◌}
 use mathlib.Core.List.{List}
 use Prim.Native.Nat.{ℕ, ◌+◌, ◌-◌}
@@ -12,26 +12,18 @@ use native.Mathlib.Omega.{arith}
 use Rattle.reedsolomon.proofs.mend.take_out.Goals as goal
 
 pub loop-i-init : goal.loop-i-init
-loop-i-init c = (omega arith, upto_none _ _)
-
-pub product-requires : goal.product-requires
-product-requires c = c.requires.log_table
+loop-i-init c = upto_none _ _
 
 pub loop-i-preserved : goal.loop-i-preserved
 unfolding add without
 loop-i-preserved c =
-    let u = c.loop-i.invariant.1 in (
-      omega arith,
-      upto_more _ c.args.syndromes.now c.loop-i.syndromes c.loop-i.i _ (omega arith)
-          (ap₂ add (u.left (c.loop-i.i + 1) (omega arith) ∙ ap (λ (k : ℕ). get_or c.args.syndromes.now k 0) (add-one c.loop-i.i))
-          (c.product.ensures ∙ ap (mul c.args.x) (u.left c.loop-i.i (omega arith)))) u,
-    )
-
-pub product-requires-2 : goal.product-requires-2
-product-requires-2 c = c.requires.log_table
+    let u = c.loop-i.invariant in
+    upto_more _ c.args.syndromes.now c.loop-i.syndromes c.loop-i.i _ (omega arith)
+    (ap₂ add (u.left (c.loop-i.i + 1) (omega arith) ∙ ap (λ (k : ℕ). get_or c.args.syndromes.now k 0) (add-one c.loop-i.i))
+    (c.product.ensures ∙ ap (mul c.args.x) (u.left c.loop-i.i (omega arith)))) u
 
 pub shape_of-syndromes : goal.shape_of-syndromes
-shape_of-syndromes c = length-set c.loop-i.syndromes (length c.args.syndromes.now - 1) c.product-2.result ∙ c.loop-i.invariant.1.same
+shape_of-syndromes c = length-set c.loop-i.syndromes (length c.args.syndromes.now - 1) c.product-2.result ∙ c.loop-i.invariant.same
 
 pub returns : goal.returns
 unfolding without
@@ -40,7 +32,7 @@ returns c =
     let last : ℕ = length xs - 1 in
     let e : c.loop-i.i ≡ last = omega arith in
     let k : last + 1 ≡ length xs = omega arith in
-    let u : Upto (without c.args.x (at xs)) xs c.loop-i.syndromes last = rw e at c.loop-i.invariant.1 in
+    let u : Upto (without c.args.x (at xs)) xs c.loop-i.syndromes last = rw e at c.loop-i.invariant in
     let v : Upto (without c.args.x (at xs)) xs (set c.loop-i.syndromes last c.product-2.result) (last + 1) =
     upto_more _ xs c.loop-i.syndromes last c.product-2.result (omega arith)
     (c.product-2.ensures ∙ ap (mul c.args.x) (u.left last (omega arith))

@@ -1,8 +1,9 @@
 -- `row::correct_row_from` meets its contract: the marks decide, and then the syndromes; where nothing is marked and the light repair repairs, that is it. Assumes
 -- nothing.
-use mathlib.Core.Path.{◌≡◌, sym, ap, ◌∙◌}
-use Prim.Native.Nat.{ℕ}
+use mathlib.Core.Path.{◌≡◌, refl, sym, ap, ◌∙◌}
+use Prim.Native.Nat.{ℕ, ◌-◌, ◌/◌}
 use mathlib.Core.List.{List}
+use mathlib.Core.Logic.{inl}
 use native.Mathlib.Omega.{arith}
 use lib.ListN.{length, get_or}
 use mir.Val.{Fits}
@@ -24,29 +25,34 @@ counted m f size e = e ∙ ap (erasure_count m) size
 
 pub returns-then-marked-gt10 : goal.returns-then-marked-gt10
 returns-then-marked-gt10 c =
-    let all = word_overfull row_shape c.args.row.bytes (search rules) (bytes c.args.row.bytes (λ i. search rules)) _ c.requires.2 _ (counted c.args.erasures.now c.count_erasures-marked.result c.requires.2 c.count_erasures-marked.ensures) c.if-marked-gt10.true in
+    let all = word_overfull row_shape c.args.row.bytes (search rules) (bytes c.args.row.bytes (λ i. search rules)) _ c.requires.0 _ (counted c.args.erasures.now c.count_erasures-marked.result c.requires.0 c.count_erasures-marked.ensures) c.if-marked-gt10.true in
     record { bytes_value = all.0; outcome_value = all.1 }
 
 pub returns-then-all_zero : goal.returns-then-all_zero
 returns-then-all_zero c =
-    let all = word_clean row_shape c.args.row.bytes (search rules) (bytes c.args.row.bytes (λ i. search rules)) _ c.requires.2 _ (counted c.args.erasures.now c.count_erasures-marked.result c.requires.2 c.count_erasures-marked.ensures) (omega arith)
-    _ c.requires.3 _ c.all_zero.ensures c.if-all_zero.true in
+    let all = word_clean row_shape c.args.row.bytes (search rules) (bytes c.args.row.bytes (λ i. search rules)) _ c.requires.0 _ (counted c.args.erasures.now c.count_erasures-marked.result c.requires.0 c.count_erasures-marked.ensures) (omega arith)
+    _ c.requires.1 _ c.all_zero.ensures c.if-all_zero.true in
     record { bytes_value = all.0; outcome_value = all.1 }
 
 pub returns-in-Repaired : goal.returns-in-Repaired
 returns-in-Repaired c =
-    let all = word_light 5 row_shape c.args.row.bytes (search rules) (bytes c.args.row.bytes (λ i. search rules)) _ _ (counted c.args.erasures.now c.count_erasures-marked.result c.requires.2 c.count_erasures-marked.ensures) c.if-marked-eq0.true
+    let all = word_light 5 row_shape c.args.row.bytes (search rules) (bytes c.args.row.bytes (λ i. search rules)) _ _ (counted c.args.erasures.now c.count_erasures-marked.result c.requires.0 c.count_erasures-marked.ensures) c.if-marked-eq0.true
     2 (omega arith) _ _ (c.correct_light_row_from-light.ensures.bytes_value, c.correct_light_row_from-light.ensures.outcome_value) c.in-Repaired.is
-    _ c.requires.3 (sym c.all_zero.ensures ∙ c.if-all_zero.false) in
+    _ c.requires.1 (sym c.all_zero.ensures ∙ c.if-all_zero.false) in
     record { bytes_value = all.0; outcome_value = all.1 }
 
-pub correct_row_located-requires : goal.correct_row_located-requires
-correct_row_located-requires c = (
-  c.requires.0,
-  c.requires.1,
-  c.requires.2,
-  counted c.args.erasures.now c.count_erasures-marked.result c.requires.2 c.count_erasures-marked.ensures,
-  omega arith,
-  c.requires.3,
-  sym c.all_zero.ensures ∙ c.if-all_zero.false,
-)
+pub correct_located-requires : goal.correct_located-requires
+correct_located-requires c =
+    let count = counted c.args.erasures.now c.count_erasures-marked.result c.requires.0 c.count_erasures-marked.ensures in (
+      omega arith,
+      (
+        omega arith,
+        (
+          omega arith,
+          (
+            omega arith,
+            (inl (refl, refl), (c.requires.0, (omega (arith, count), (ap (λ (f : ℕ). (10 - f) / 2) count, (c.requires.1, sym c.all_zero.ensures ∙ c.if-all_zero.false))))),
+          ),
+        ),
+      ),
+    )
