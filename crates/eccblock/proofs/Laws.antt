@@ -7,6 +7,7 @@ use Prim.Native.Nat.{ℕ, ◌+◌, ◌*◌, ◌/◌, ◌%◌, ◌<◌}
 use native.Mathlib.Omega.{arith}
 use lib.ListN.{length, get_or, drop, length-drop}
 use lib.Seq.{ext_get_or, get_or-take, get_or-drop, length-take-le}
+use Rattle.std.specs.Prelude.{Option}
 use Rattle.lists.specs.Fill.{tabulate}
 use Rattle.lists.specs.Bytes.{Bytes}
 use Rattle.lists.proofs.Test.{truth}
@@ -28,7 +29,6 @@ use Rattle.dataframe.specs.Checks.{info_of, number_of, main_of, frame_refusal, m
 use Rattle.dataframe.proofs.Laws as one
 use Rattle.eccblock.specs.Block.{main_part, frame, data_byte, column, code_column, row, code_row, block_byte, block}
 use Rattle.eccblock.specs.Encode.{Accepted}
-use Rattle.eccblock.specs.declared.Previous.{Previous}
 use Rattle.eccblock.proofs.Refusals.{Facts, accepted_facts}
 use Rattle.eccblock.proofs.Cells.{column_length, column_at, code_column_length, code_column_data, code_row_length, code_row_data}
 
@@ -41,7 +41,7 @@ pub frame_by_part : (main other : List ℕ) (first info k : ℕ) → main_part m
 unfolding frame
 frame_by_part main other first info k e = ap (λ (d : List ℕ). scrambled (first + k) (data_frame d info (first + k))) e
 
-module _ {previous : Previous} (main : List ℕ) (first info : ℕ) (ok : Accepted previous main first info) where
+module _ {previous : Option ℕ} (main : List ℕ) (first info : ℕ) (ok : Accepted previous main first info) where
   facts : Facts previous main first info
   facts = accepted_facts main first info ok
 

@@ -1,30 +1,24 @@
 -- The refusals of the block maker, case by case, and what an accepted block is.
 -- Assumes nothing.
-use mathlib.Core.Path.{◌≡◌, refl, sym, ap, ◌∙◌}
+use mathlib.Core.Path.{◌≡◌, refl, ap, ◌∙◌}
 use mathlib.Core.Bool.{Bool, true, false, ◌&&◌, cond}
 use mathlib.Core.List.{List}
 use mathlib.Core.Logic.{◌≢◌}
 use Prim.Native.Nat.{ℕ, suc, ◌%◌, ◌<◌, ◌≤◌}
 use native.Mathlib.Omega.{arith}
 use borrow.Author.Tests.{eq-eqb, ne_eqb, eqb-true, le-leb, lt-leb, leb-true}
-use lib.Bits.{bit_and}
 use lib.Dec.{eqb, leb}
 use lib.ListN.{length}
+use Rattle.std.specs.Prelude.{Option}
 use Rattle.layout.specs.Lengths.{main_size, block_size, last_first}
 use Rattle.dataframe.specs.Frame.{is_permitted}
-use Rattle.eccblock.specs.Block.{block}
 use Rattle.eccblock.specs.Encode.{follows, encode_refusal, encoded_buffer, Accepted}
-use Rattle.eccblock.specs.declared.Previous.{Previous}
 
 -- the number where neither 1 nor 2 applies
-abbrev judged : Previous → ℕ → ℕ → ℕ
+abbrev judged : Option ℕ → ℕ → ℕ → ℕ
 judged previous first info = cond (is_permitted info) (cond (follows previous first) 0 10) 3
 
-module _ (previous : Previous) (n m first info : ℕ) where
-  pub main_length : n ≢ main_size → 1 ≡ encode_refusal previous n m first info
-  unfolding encode_refusal
-  main_length h = rw (ne_eqb n main_size h)
-
+module _ (previous : Option ℕ) (n m first info : ℕ) where
   module _ (e : n ≡ main_size) where
     pub buffer_length : m ≢ block_size → 1 ≡ encode_refusal previous n m first info
     unfolding encode_refusal
@@ -45,31 +39,15 @@ module _ (previous : Previous) (n m first info : ℕ) where
           unfolding encode_refusal
           by_judgement = rw (eq-eqb n main_size e, eq-eqb m block_size f, eq-eqb (first % 16) 0 g, le-leb first last_first l)
 
-module _ (previous : Previous) (first info : ℕ) where
-  pub prohibited : bit_and info 0xD2 ≢ 0 → 3 ≡ judged previous first info
-  prohibited h = rw (ne_eqb (bit_and info 0xD2) 0 h)
+-- ---- the buffer of a call that is refused
 
-  module _ (p : bit_and info 0xD2 ≡ 0) where
-    pub not-following : follows previous first ≡ false → 10 ≡ judged previous first info
-    not-following h = rw (eq-eqb (bit_and info 0xD2) 0 p, h)
-
-    pub following : follows previous first ≡ true → 0 ≡ judged previous first info
-    following h = rw (eq-eqb (bit_and info 0xD2) 0 p, h)
-
--- ---- the answer and the buffer
-
-module _ (previous : Previous) (main : List ℕ) (first info : ℕ) (old : List ℕ) where
+module _ (previous : Option ℕ) (main : List ℕ) (first info : ℕ) (old : List ℕ) where
   abbrev refusal : ℕ
   refusal = encode_refusal previous (length main) (length old) first info
 
-  pub refused_and_left : {r : ℕ} → r ≡ refusal → r ≢ 0 → (r ≡ refusal) × (old ≡ encoded_buffer previous main first info old)
+  pub left_alone : {r : ℕ} {now : List ℕ} → r ≡ refusal → r ≢ 0 → now ≡ old → now ≡ encoded_buffer previous main first info old
   unfolding encoded_buffer
-  refused_and_left e h = (e, rw (ne_eqb refusal 0 (λ z. h (e ∙ z))))
-
-  pub taken_and_made :
-      {r : ℕ} {new : List ℕ} → r ≡ refusal → r ≡ 0 → new ≡ block main first info → (r ≡ refusal) × (new ≡ encoded_buffer previous main first info old)
-  unfolding encoded_buffer
-  taken_and_made e h made = (e, made ∙ rw (eq-eqb refusal 0 (sym e ∙ h)))
+  left_alone e h same = same ∙ rw (ne_eqb refusal 0 (λ z. h (e ∙ z)))
 
 -- ---- an accepted block
 
@@ -81,14 +59,14 @@ not_refused : (b : Bool) (n m : ℕ) → cond b m (suc n) ≡ 0 → (b ≡ true)
 not_refused true n m e = (refl, e)
 not_refused false n m e = absurd (omega arith)
 
-pub record Facts (previous : Previous) (main : List ℕ) (first info : ℕ) : Type 0 where
+pub record Facts (previous : Option ℕ) (main : List ℕ) (first info : ℕ) : Type 0 where
   pub whole : length main ≡ main_size
   pub sixteen : first % 16 ≡ 0
   pub small : first ≤ last_first
   pub permitted : is_permitted info ≡ true
   pub following : follows previous first ≡ true
 
-pub accepted_facts : {previous : Previous} (main : List ℕ) (first info : ℕ) → Accepted previous main first info → Facts previous main first info
+pub accepted_facts : {previous : Option ℕ} (main : List ℕ) (first info : ℕ) → Accepted previous main first info → Facts previous main first info
 unfolding encode_refusal
 accepted_facts {previous} main first info ok =
     let n = length main in

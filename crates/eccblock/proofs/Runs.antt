@@ -7,15 +7,14 @@ use Prim.Native.Nat.{ℕ, ◌+◌, ◌*◌, ◌≤◌}
 use native.Mathlib.Omega.{arith}
 use borrow.Author.Tests.{eqb-true}
 use lib.ListN.{length}
+use Rattle.std.specs.Prelude.{Option, None, Some}
 use Rattle.layout.specs.Lengths.{main_size, block_size, last_first, run_sectors}
 use Rattle.eccblock.specs.Encode.{encode_refusal, Accepted}
 use Rattle.eccblock.specs.Run.{BlockInput, AcceptedRun}
-use Rattle.eccblock.specs.declared.Previous.{Previous}
-use Rattle.eccblock.specs.declared.Previous.TheVariants.{None, First}
 use Rattle.eccblock.proofs.Refusals.{accepted_facts, by_judgement}
 
 -- a block that is accepted after another is accepted with none before it
-pub accepted_any : {previous : Previous} {main : List ℕ} {first info : ℕ} → Accepted previous main first info → Accepted None main first info
+pub accepted_any : {previous : Option ℕ} {main : List ℕ} {first info : ℕ} → Accepted previous main first info → Accepted None main first info
 accepted_any {previous} {main} {first} {info} ok =
     let f = accepted_facts main first info ok in
     record {
@@ -25,7 +24,7 @@ accepted_any {previous} {main} {first} {info} ok =
     }
 
 -- the numbers up to the end of the block with first number p, and those of the blocks after it, are sector numbers
-after_fits : (p : ℕ) (is : List BlockInput) → p ≤ last_first → AcceptedRun (First p) is → p + 16 + 16 * length is ≤ run_sectors
+after_fits : (p : ℕ) (is : List BlockInput) → p ≤ last_first → AcceptedRun (Some p) is → p + 16 + 16 * length is ≤ run_sectors
 unfolding AcceptedRun
 after_fits p [] h ok = omega arith
 after_fits p (i ∷ is) h (ok, oks) =
@@ -39,6 +38,6 @@ run_length_fits [] ok = omega arith
 run_length_fits (i ∷ is) (ok, oks) = omega (arith, after_fits i.first is (accepted_facts i.main i.first i.info ok).small oks)
 
 -- 4,294,967,280 plus 16 is 2^32, and not 0
-pub zero_after_the_highest≡10 : encode_refusal (First 4294967280) main_size block_size 0 0 ≡ 10
+pub zero_after_the_highest≡10 : encode_refusal (Some 4294967280) main_size block_size 0 0 ≡ 10
 unfolding encode_refusal
 zero_after_the_highest≡10 = refl

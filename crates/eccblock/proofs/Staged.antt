@@ -22,9 +22,10 @@ use Rattle.layout.specs.Inner.{row_place, column_place, frame_place}
 use Rattle.layout.proofs.Order.{recording_low, recording_high, original_low, original_high}
 use Rattle.layout.proofs.Places.{column_byte, frame_row, frame_apart, frame_place_lem, column_length as column-of-length}
 use Rattle.codes.specs.Parity.{parity}
-use Rattle.division.specs.Inner.{beside, register_at, unpacked}
+use Rattle.division.specs.Inner.{beside, unpacked}
+use Rattle.division.specs.declared.register.Remainder.{Remainder}
 use Rattle.division.proofs.Division.{parity-size, parity_small}
-use Rattle.division.proofs.Unpacked.{unpacked-whole}
+use Rattle.division.proofs.Unpacked.{unpacked-register}
 use Rattle.parity.proofs.Registers.{column_register}
 use Rattle.eccblock.specs.Block.{frame, data_byte, column, code_column, row, code_row, block_byte, block}
 use Rattle.eccblock.specs.Inner.{Frames, Columns, Rows}
@@ -34,21 +35,20 @@ use Rattle.eccblock.proofs.Cells.{code_column_data, code_column_parity, code_row
 
 -- one row more of a frame that is stored
 pub frame_more :
-    (k r : ℕ) (f old mid new : List ℕ) → length f ≡ frame_size → length old ≡ block_size → k < sector_count → r < frame_rows
-    → new ≡ sets mid ((sector_rows * k + r) * row_size) (take (column_count * r + column_count - column_count * r) (drop (column_count * r) f))
+    (k r : ℕ) (f row old mid new : List ℕ) → length f ≡ frame_size → length old ≡ block_size → k < sector_count → r < frame_rows
+    → row ≡ take column_count (drop (r * column_count) f) → new ≡ sets mid ((sector_rows * k + r) * row_size) row
     → Stored (frame_place k) f old mid (column_count * r) → Stored (frame_place k) f old new (column_count * (r + 1))
-frame_more k r f old mid new len size hk hr z w =
+frame_more k r f row old mid new len size hk hr part put w =
     let at : ℕ = (sector_rows * k + r) * row_size in
-    let part : List ℕ = take column_count (drop (column_count * r) f) in
-    let e : column_count * r + column_count - column_count * r ≡ column_count = omega arith in
-    let l : length part ≡ column_count = length-take-le column_count (drop (column_count * r) f) (rw length-drop (omega arith)) in
+    let e : r * column_count ≡ column_count * r = omega arith in
+    let is : row ≡ take column_count (drop (column_count * r) f) = part ∙ ap (λ (m : ℕ). take column_count (drop m f)) e in
+    let l : length row ≡ column_count = ap length is ∙ length-take-le column_count (drop (column_count * r) f) (rw length-drop (omega arith)) in
     let p : at ≡ frame_place k (column_count * r) = omega arith in
     let n : column_count * (r + 1) ≡ column_count * r + column_count = omega arith in
-    let put : new ≡ sets mid at part = z ∙ ap (λ (m : ℕ). sets mid at (take m (drop (column_count * r) f))) e in
-    let stored : Stored (following at) part mid new column_count = put_stored part mid new at column_count l (omega (arith, w.size)) put in
+    let stored : Stored (following at) row mid new column_count = put_stored row mid new at column_count l (omega (arith, w.size)) put in
     rw n
     (stored_row (frame_place k) f old mid new (column_count * r) column_count (λ j m. frame_row k r j m)
-    (λ i j m t q. frame_apart k i (column_count * r + j) (omega arith) (q ∙ sym (frame_row k r j t))) w (rw p at stored))
+    (λ i j m t q. frame_apart k i (column_count * r + j) (omega arith) (q ∙ sym (frame_row k r j t))) w (rw p at (rw is at stored)))
 
 frame_other : (i k p q : ℕ) → i ≢ k → p < frame_size → q < frame_size → frame_place i p ≢ frame_place k q
 frame_other i k p q n h l e = n (omega arith)
@@ -88,12 +88,13 @@ frame_outer k q j i h l e =
 
 -- what the register of a column unpacks to
 pub outer_bytes :
-    (xs regs p : List ℕ) (j : ℕ) → j < column_count → regs ≡ beside (λ i. parity outer_size (take data_rows (column_of xs i))) column_count
-    → p ≡ register_at regs j → p ≡ parity outer_size (take data_rows (column_of xs j))
-outer_bytes xs regs p j h b e =
+    (xs p : List ℕ) (regs : List Remainder) (j : ℕ) (r : Remainder) → j < column_count
+    → regs ≡ beside (λ i. parity outer_size (take data_rows (column_of xs i))) column_count
+    → p ≡ take outer_size (unpacked (get_or regs j r)) → p ≡ parity outer_size (take data_rows (column_of xs j))
+outer_bytes xs p regs j r h b e =
     let first : List ℕ = take data_rows (column_of xs j) in
-    let register = column_register xs regs j h b in
-    e ∙ ap₂ unpacked register.0 register.1 ∙ unpacked-whole (parity outer_size first) (parity_small outer_size first) (parity-size outer_size first)
+    e ∙ ap (λ (x : Remainder). take outer_size (unpacked x)) (column_register xs regs j r h b)
+    ∙ unpacked-register outer_size (parity outer_size first) (parity_small outer_size first) (parity-size outer_size first) (omega arith)
 
 module _ (main : List ℕ) (first info : ℕ) where
   -- the data of a column stand in its first 192 rows

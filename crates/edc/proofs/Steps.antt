@@ -1,4 +1,4 @@
--- EDC, four bytes at a time.
+-- EDC, four bytes at a time; and a chunk of a list (chunk_at).
 -- Assumes nothing.
 use mathlib.Core.Path.{◌≡◌, refl, sym, ap, ap₂, ◌∙◌}
 use mathlib.Core.List.{List, [], ◌∷◌, ◌++◌}
@@ -11,7 +11,7 @@ use Rattle.std.proofs.lemmas.List.{drop-drop, take-append-drop}
 use Rattle.lists.specs.Bytes.{Bytes}
 use Rattle.edc.specs.Edc.{edc_bits, edc_from, four_bytes, edc_of}
 
-chunk_at : (n k i : ℕ) (xs d : List ℕ) → i < k → get_or (first_chunks n k xs) i d ≡ take n (drop (i * n) xs)
+pub chunk_at : (n k i : ℕ) (xs d : List ℕ) → i < k → get_or (first_chunks n k xs) i d ≡ take n (drop (i * n) xs)
 chunk_at n zero i xs d h = absurd (omega arith)
 chunk_at n (suc k) zero xs d h = ap (λ (m : ℕ). take n (drop m xs)) (sym (zero-mul n))
 chunk_at n (suc k) (suc i) xs d h =

@@ -1,6 +1,7 @@
 -- What the functions of the C boundary are told, the numbers that they answer with, and what a lent buffer holds afterwards. One number space: 0 where all is done,
 -- below 256 the refusals, which are the documents' numbers, and from 256 on what became of a word that was no code word, so that none is taken for another.
 --   previous_of                                  the block before, as C tells it
+--   reading_number                               a Code Word as it is read
 --   corrected, uncorrectable, outcome_number     the outcomes of a word
 --   heavier, light_number                        those of the light repair
 --   sized, done_or1, held_after                   a function that fills a buffer, or refuses
@@ -42,6 +43,11 @@ corrected = 256
 
 abbrev pub uncorrectable : ℕ
 uncorrectable = 257
+
+-- a reading as a number: its byte, or 256 for an unknown word
+abbrev pub reading_number : Option ℕ → ℕ
+reading_number (Some b) = b
+reading_number None = 256
 
 -- 0 for a word that was a code word already
 abbrev pub outcome_number : Outcome → ℕ

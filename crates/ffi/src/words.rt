@@ -1,10 +1,11 @@
 // Code Words and streams of code bits.
 ghost use Rattle.std.specs.Prelude.{◌≡◌, ◌&&◌, leb, length};
 ghost use Rattle.lists.specs.Count.{bit};
-ghost use Rattle.annexg.specs.Read.{read_word, reading_number};
+ghost use Rattle.annexg.specs.Read.{read_word};
 ghost use Rattle.channel.specs.Bits.{zero_runs_hold};
 ghost use Rattle.layout.specs.Lengths.{stream_size};
 ghost use Rattle.reader.specs.Closing.{closing_holds};
+ghost use Rattle.ffi.specs.Answers.{reading_number};
 
 // The byte that a word stands for where the half word `following` comes after it; 256 for an unknown word.
 #[unsafe(no_mangle)]

@@ -5,6 +5,7 @@ use mathlib.Core.Path.{◌≡◌, refl, sym, ap, ap₂, subst, ◌∙◌, ◌≡
 use mathlib.Core.Bool.{Bool, true, false, cond}
 use mathlib.Core.List.{List}
 use Prim.Native.Nat.{ℕ, zero, suc, ◌+◌, ◌*◌, ◌/◌, ◌%◌, ◌<◌, ◌≤◌}
+use Rattle.std.specs.Prelude.{Option, Result, Ok, Err, is_ok, ⊤}
 use native.Mathlib.Omega.{arith}
 use borrow.Author.Tests.{ltb-false, lt-ltb, eq-eqb}
 use lib.Dec.{ltb}
@@ -22,23 +23,25 @@ use Rattle.dataframe.specs.Checks.{info_of, number_of, frame_refusal, main_of_bl
 use Rattle.eccblock.specs.Block.{frame, code_column, code_row, block}
 use Rattle.layout.specs.Rows.{recording_row, original_row, row_of, column_of, frame_of}
 use Rattle.eccblock.specs.Encode.{Accepted}
-use Rattle.eccblock.specs.declared.Previous.{Previous}
 use Rattle.layout.proofs.Order.{recording_lt, recording_original, count_recording}
 use Rattle.layout.proofs.Places.{column_length, column_byte, frame_length, frame_byte_lem}
 use Rattle.eccblock.proofs.Cells.{code_column_length, code_row_length}
 use Rattle.eccblock.proofs.Laws.{code_column_bytes, code_column_code, code_row_bytes, code_row_code, block_row, block_column, block_frame, frame_number, frame_info, frame_passes, frames_main}
 use Rattle.lists.proofs.Distance.{distance-count}
 use Rattle.repairer.specs.Repair.{rows_repaired, columns_repaired, repaired, tallies_of}
-use Rattle.repairer.specs.Answer.{frame_fault, judged, lengths_fit, marks_fit, repair_answer, hands_out, main_after}
-use Rattle.repairer.specs.declared.Repaired.{Repaired}
-use Rattle.repairer.specs.declared.Repaired.TheVariants.{Block, FrameRefused, ErasureRefused, LengthRefused}
+use Rattle.repairer.specs.Answer.{frame_fault, passed, of_block, in_order, judged, lengths_fit, marks_fit, repair_of, repair_answer, main_after}
+use Rattle.repairer.specs.declared.Repair.{Repair}
+use Rattle.repairer.specs.declared.BlockRefusal.{BlockRefusal}
+use Rattle.repairer.proofs.Numbers.{answer_is}
+use Rattle.refusals.specs.declared.Refusal.{Refusal}
+use Rattle.refusals.specs.declared.Refusal.TheVariants.{Length, Mark}
 use Rattle.layout.specs.Lengths.{main_size, block_size, frame_size, row_count, row_size, column_count}
 
-all_pass : (ys : List ℕ) (a : Repaired) (n k : ℕ) → ((i : ℕ) → i < k + n → frame_fault ys i ≡ 0) → judged ys k n a ≡ a
+all_pass : (ys : List ℕ) (a : Result Repair BlockRefusal) (n k : ℕ) → ((i : ℕ) → i < k + n → frame_fault ys i ≡ 0) → judged ys k n a ≡ a
 unfolding judged
 all_pass ys a zero k h = refl
 all_pass ys a (suc n) k h =
-    ap (λ (t : Bool). cond t (judged ys (suc k) n a) (FrameRefused (frame_fault ys k) k)) (eq-eqb (frame_fault ys k) 0 (h k (omega arith)))
+    ap (λ (t : Result ⊤ Refusal). in_order t k (judged ys (suc k) n a)) (sym (answer_is ys k passed (sym (h k (omega arith)))))
     ∙ all_pass ys a n (suc k) (λ i l. h i (omega arith))
 
 -- row q of the buffer xs with the marks ms is far from that of the block bs: 2e + f is over ten, where f counts its marked bytes and e the others that differ
@@ -48,7 +51,7 @@ far_row xs ms bs q = ltb 10 (2 * error_count (row_of ms q) (row_of xs q) (row_of
 unfoldable pub far_rows : List ℕ → List ℕ → List ℕ → ℕ
 far_rows xs ms bs = count_from (far_row xs ms bs) 0 row_count
 
-module _ {previous : Previous} (main : List ℕ) (first info : ℕ) (ok : Accepted previous main first info) (xs ms : List ℕ) (whole : length xs ≡ block_size) (hx : Bytes xs) where
+module _ {previous : Option ℕ} (main : List ℕ) (first info : ℕ) (ok : Accepted previous main first info) (xs ms : List ℕ) (whole : length xs ≡ block_size) (hx : Bytes xs) where
   abbrev made : List ℕ
   made = block main first info
 
@@ -175,16 +178,17 @@ module _ {previous : Previous} (main : List ℕ) (first info : ℕ) (ok : Accept
       fits = rw (eq-eqb (length xs) block_size whole, eq-eqb (length ms) block_size sized)
 
       -- the repairer hands out the first number,
-      pub handed_out : repair_answer xs ms main_size ≡ Block first (tallies_of xs ms)
+      pub handed_out : repair_answer xs ms main_size ≡ Ok (record { first = first; tallies = tallies_of xs ms })
       unfolding repair_answer
       handed_out =
-          let passed = Block (number_of (frame_of (repaired xs ms) 0)) (tallies_of xs ms) in
-          ap₂ (λ (t u : Bool). cond t (cond u (judged (repaired xs ms) 0 16 passed) ErasureRefused) LengthRefused) fits marks
-          ∙ all_pass (repaired xs ms) passed 16 0 (λ i l. frame_good i (omega arith)) ∙ ap (λ (n : ℕ). Block n (tallies_of xs ms)) first_back
+          let given = Ok (repair_of (repaired xs ms) (tallies_of xs ms)) in
+          ap₂ (λ (t u : Bool). cond t (cond u (judged (repaired xs ms) 0 16 given) (Err (of_block Mark))) (Err (of_block Length))) fits marks
+          ∙ all_pass (repaired xs ms) given 16 0 (λ i l. frame_good i (omega arith))
+          ∙ ap (λ (n : ℕ). Ok (record { first = n; tallies = tallies_of xs ms })) first_back
 
       -- and the main data
       pub main_back : (old : List ℕ) → length old ≡ main_size → main_after xs ms old ≡ main
       unfolding main_after
       main_back old l =
-          ap (λ (a : Repaired). cond (hands_out a) (main_of_block (repaired xs ms)) old) (ap (repair_answer xs ms) l ∙ handed_out)
+          ap (λ (a : Result Repair BlockRefusal). cond (is_ok a) (main_of_block (repaired xs ms)) old) (ap (repair_answer xs ms) l ∙ handed_out)
           ∙ frames_main main first info ok (repaired xs ms) frame_back

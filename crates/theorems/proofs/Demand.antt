@@ -22,7 +22,7 @@
 --   bits_bytes, block_zero_run_fits              channel/specs/Bits              the zero runs, which no call of this theorem tests
 --   Buffers, Lent, call_answer, block_bytes,   reader/specs/Session            sixteen calls, by the two lines below
 --   block_erasures
---   sector_answer, sector_after,               reader/specs/Sector             reader::read_sector, sector_read_number
+--   sector_answer, sector_after,               reader/specs/Sector             reader::read_sector, answer_number
 --   erasures_after, sector_read_number
 --   repair_answer, main_after, tallies_of       repairer/specs/Answer, Repair   repairer::repair_block
 --   block_read_answer, block_read_main,          blockreader/specs/BlockReader   blockreader::read_block
@@ -33,6 +33,8 @@ use mathlib.Core.Path.{◌≡◌, subst}
 use mathlib.Core.Bool.{Bool}
 use mathlib.Core.List.{List, [], ◌∷◌, ◌++◌}
 use Prim.Native.Nat.{ℕ, ◌*◌, ◌<◌, ◌≤◌}
+use Rattle.std.specs.Prelude.{Option, None, Ok}
+use Rattle.refusals.specs.Refusal.{answer_number}
 use native.Mathlib.Omega.{arith}
 use borrow.Author.Tests.{eq-eqb}
 use lib.Dec.{T}
@@ -45,8 +47,6 @@ use Rattle.layout.specs.Sectors.{block_part, run_size}
 use Rattle.eccblock.specs.Block.{block}
 use Rattle.eccblock.specs.Encode.{Accepted}
 use Rattle.eccblock.specs.Run.{BlockInput, AcceptedRun, run_blocks}
-use Rattle.eccblock.specs.declared.Previous.{Previous}
-use Rattle.eccblock.specs.declared.Previous.TheVariants.{None}
 use Rattle.eccblock.proofs.Laws.{block_length, block_bytes_lem}
 use Rattle.eccblock.proofs.Runs.{accepted_any}
 use Rattle.channel.specs.Block.{Blocks, permitted_run, run_stream, permitted_choices, permitted_stream, heavy_rows, overloaded_rows, read_block, erasures_of_block}
@@ -55,14 +55,12 @@ use Rattle.channel.proofs.Rows.{LaidBlock}
 use Rattle.channel.proofs.Sectors.{overloaded_heavy}
 use Rattle.channel.proofs.Runs.{run_stream-length}
 use Rattle.channel.proofs.RunZeroRuns.{run_zero_runs}
-use Rattle.reader.specs.Sector.{unknown_tally, sync_tally, sector_read_number}
+use Rattle.reader.specs.Sector.{unknown_tally, sync_tally}
 use Rattle.reader.specs.Session.{Buffers, Lent, call_answer, block_bytes, block_erasures}
 use Rattle.reader.proofs.Calls.{call_number≡0, block_bytes≡read_block, block_erasures≡erasures_of_block}
 use Rattle.repairer.specs.Repair.{tallies_of}
 use Rattle.repairer.specs.Answer.{repair_answer, main_after}
-use Rattle.repairer.specs.declared.Repaired.TheVariants.{Block as RepairedBlock}
 use Rattle.blockreader.specs.BlockReader.{sector_sum, block_fits, block_read_answer, block_read_main}
-use Rattle.blockreader.specs.declared.BlockRead.TheVariants.{Block}
 use Rattle.blockreader.proofs.Numbers.{marks_length, marks_fit_lem}
 use Rattle.theorems.proofs.ReadBytes.{read_block_length, read_block_bytes}
 use Rattle.theorems.proofs.Chain.{far_rows, handed_out, main_back}
@@ -79,9 +77,10 @@ ZeroRunsFit ys = (head tail : List ℕ) (k : ℕ) → bits_bytes ys ≡ head ++ 
 -- held old
 pub record ByCalls (main : List ℕ) (first : ℕ) (xs : List ℕ) (b : Buffers) (old : List ℕ) : Type 0 where
   -- no sector is refused,
-  pub sectors : (k : ℕ) → k < sector_count → sector_read_number (call_answer xs b k) ≡ 0
+  pub sectors : (k : ℕ) → k < sector_count → answer_number (call_answer xs b k) ≡ 0
   -- the repairer gets the sixteen buffers of bytes and of marks, refuses nothing and hands out the first number
-  pub answer : repair_answer (block_bytes xs b) (block_erasures xs b) (length old) ≡ RepairedBlock first (tallies_of (block_bytes xs b) (block_erasures xs b))
+  pub answer : repair_answer (block_bytes xs b) (block_erasures xs b) (length old)
+      ≡ Ok (record { first = first; tallies = tallies_of (block_bytes xs b) (block_erasures xs b) })
   -- and the main data
   pub main_data : main_after (block_bytes xs b) (block_erasures xs b) old ≡ main
 
@@ -92,7 +91,12 @@ pub record HandedOut (main : List ℕ) (first : ℕ) (xs : List ℕ) : Type 0 wh
   -- and by the one call of the whole-block reader
   pub whole_answer :
       block_read_answer xs block_size block_size main_size
-      ≡ Block first (tallies_of (read_block xs) (erasures_of_block xs)) (sector_sum unknown_tally xs 0 sector_count) (sector_sum sync_tally xs 0 sector_count)
+      ≡ Ok (record {
+        first = first;
+        tallies = tallies_of (read_block xs) (erasures_of_block xs);
+        unknown = sector_sum unknown_tally xs 0 sector_count;
+        sync = sector_sum sync_tally xs 0 sector_count;
+      })
   pub whole_main_data : (old : List ℕ) → length old ≡ main_size → block_read_main xs block_size block_size old ≡ main
 
 pub record Demand3 : Type 0 where
@@ -118,18 +122,18 @@ pub record Demand3 : Type 0 where
 pub record Demand3Block : Type 0 where
   pub zero_runs : (bs : List ℕ) (cs : List Bool) → length bs ≡ block_size → Bytes bs → T (permitted_choices bs cs)
       → ZeroRunsFit (permitted_stream bs cs)
-  pub back : {previous : Previous} (main : List ℕ) (first info : ℕ) → Accepted previous main first info → (cs : List Bool)
+  pub back : {previous : Option ℕ} (main : List ℕ) (first info : ℕ) → Accepted previous main first info → (cs : List Bool)
       → T (permitted_choices (block main first info) cs)
       → (xs : List ℕ) → length xs ≡ stream_size → Bytes xs → heavy_rows (permitted_stream (block main first info) cs) xs ≤ 8
       → HandedOut main first xs
-  pub farther : {previous : Previous} (main : List ℕ) (first info : ℕ) → Accepted previous main first info → (cs : List Bool)
+  pub farther : {previous : Option ℕ} (main : List ℕ) (first info : ℕ) → Accepted previous main first info → (cs : List Bool)
       → T (permitted_choices (block main first info) cs)
       → (xs : List ℕ) → length xs ≡ stream_size → Bytes xs → overloaded_rows (permitted_stream (block main first info) cs) xs ≤ 8
       → HandedOut main first xs
 
 -- ---- and proved
 
-module _ {previous : Previous} (main : List ℕ) (first info : ℕ) (ok : Accepted previous main first info) (xs : List ℕ) (whole : length xs ≡ stream_size) where
+module _ {previous : Option ℕ} (main : List ℕ) (first info : ℕ) (ok : Accepted previous main first info) (xs : List ℕ) (whole : length xs ≡ stream_size) where
   abbrev made : List ℕ
   made = block main first info
 

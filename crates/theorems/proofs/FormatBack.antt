@@ -5,6 +5,7 @@ use mathlib.Core.Bool.{Bool}
 use mathlib.Core.List.{List, [], ◌∷◌, ◌++◌}
 use mathlib.Core.Path.{◌≡◌, refl, sym, subst}
 use Prim.Native.Nat.{ℕ, ◌<◌, ◌≤◌}
+use Rattle.std.specs.Prelude.{None}
 use borrow.Author.Tests.{eq-eqb}
 use lib.Dec.{T}
 use lib.ListN.{length}
@@ -15,7 +16,6 @@ use Rattle.channel.specs.Block.{permitted_run, run_stream, permitted_stream, hea
 use Rattle.eccblock.specs.Block.{block}
 use Rattle.eccblock.specs.Encode.{Accepted}
 use Rattle.eccblock.specs.Run.{BlockInput, AcceptedRun, run_blocks}
-use Rattle.eccblock.specs.declared.Previous.TheVariants.{None}
 use Rattle.eccblock.proofs.Laws.{block_length, block_bytes_lem}
 use Rattle.streams.specs.Frames.{choices_of}
 use Rattle.streams.proofs.Frames.{run_permitted, run_stream_lem}

@@ -11,6 +11,7 @@ use mathlib.Core.Path.{◌≡◌, refl, sym, ap, subst, ◌∙◌}
 use mathlib.Core.Bool.{Bool, true, false, false≢true, not, cond, ◌&&◌, ◌||◌}
 use mathlib.Core.List.{List, ◌∷◌, ◌++◌, map}
 use Prim.Native.Nat.{ℕ, ◌+◌, ◌*◌, ◌/◌, ◌%◌, ◌<◌, ◌≤◌}
+use Rattle.std.specs.Prelude.{Option, None}
 use native.Mathlib.Omega.{arith}
 use borrow.Author.Tests.{eqb-false, leb-true, leb-false, le-ltb}
 use lib.Dec.{T, eqb, ltb, leb}
@@ -30,8 +31,6 @@ use Rattle.layout.proofs.Order.{original_low}
 use Rattle.eccblock.specs.Block.{block}
 use Rattle.eccblock.specs.Encode.{Accepted}
 use Rattle.eccblock.specs.Run.{BlockInput, AcceptedRun, run_blocks}
-use Rattle.eccblock.specs.declared.Previous.{Previous}
-use Rattle.eccblock.specs.declared.Previous.TheVariants.{None}
 use Rattle.eccblock.proofs.Laws.{block_length, block_bytes_lem, block_row}
 use Rattle.eccblock.proofs.Refusals.{accepted_facts}
 use Rattle.reach.proofs.OneByte.{code_row_alike}
@@ -87,7 +86,7 @@ neither false true true e f = absurd (false≢true (sym e))
 neither false true false e f = absurd (false≢true (sym f))
 neither false false c e f = (refl, refl)
 
-module _ {previous : Previous} (main : List ℕ) (first info : ℕ) (ok : Accepted previous main first info) where
+module _ {previous : Option ℕ} (main : List ℕ) (first info : ℕ) (ok : Accepted previous main first info) where
   abbrev own : List ℕ
   own = block main first info
 
@@ -223,7 +222,7 @@ module _ {previous : Previous} (main : List ℕ) (first info : ℕ) (ok : Accept
 
 -- ---- and proved
 
-pub nine_rows : {previous : Previous} (main : List ℕ) (first info : ℕ) → Accepted previous main first info → (cs : List Bool)
+pub nine_rows : {previous : Option ℕ} (main : List ℕ) (first info : ℕ) → Accepted previous main first info → (cs : List Bool)
     → T (permitted_choices (block main first info) cs) → Misread main first (permitted_stream (block main first info) cs)
 nine_rows main first info ok cs p =
     laid_misread main first info ok (laid_alone (block main first info) cs (block_length main first info ok) (block_bytes_lem main first info ok) p)

@@ -18,6 +18,8 @@ use mathlib.Core.Path.{◌≡◌, refl, sym, ap, ap₂, subst, ◌∙◌}
 use mathlib.Core.Bool.{Bool, true, false, false≢true, not, cond, ◌&&◌, ◌||◌}
 use mathlib.Core.List.{List, ◌∷◌, ◌++◌}
 use Prim.Native.Nat.{ℕ, ◌+◌, ◌*◌, ◌<◌, ◌≤◌}
+use Rattle.std.specs.Prelude.{Option, Some, None, Ok}
+use Rattle.refusals.specs.Refusal.{answer_number}
 use native.Mathlib.Omega.{arith}
 use borrow.Author.Tests.{eq-eqb, le-ltb, le-leb, ltb-false}
 use lib.Dec.{T, eqb, ltb, leb}
@@ -35,25 +37,18 @@ use Rattle.codes.specs.Erasures.{erasure_count, error_count, nearest_erased}
 use Rattle.eccblock.specs.Block.{block}
 use Rattle.eccblock.specs.Encode.{Accepted}
 use Rattle.eccblock.specs.Run.{BlockInput, AcceptedRun, run_blocks}
-use Rattle.eccblock.specs.declared.Previous.{Previous}
-use Rattle.eccblock.specs.declared.Previous.TheVariants.{None}
 use Rattle.eccblock.proofs.Laws.{block_length}
-use Rattle.annexg.specs.declared.Reading.{Reading}
-use Rattle.annexg.specs.declared.Reading.TheVariants.{Byte, Unknown}
 use Rattle.channel.specs.Block.{reading_at, reading_byte, read_at, is_unknown, unknown_at, permitted_run, run_stream, read_block, erasures_of_block, touched, touched_known_in, some_from, clashes, clashing_rows}
 use Rattle.channel.proofs.BitsTouched.{none-at}
 use Rattle.channel.proofs.Rows.{LaidBlock}
 use Rattle.channel.proofs.Sectors.{read_block_lem, erasures_block}
-use Rattle.reader.specs.Sector.{sector_read_number}
 use Rattle.reader.specs.Session.{Buffers, Lent, call_answer, block_bytes, block_erasures}
 use Rattle.reader.proofs.Calls.{call_number≡0, block_bytes≡read_block, block_erasures≡erasures_of_block}
 use Rattle.repairer.specs.Repair.{tallies_of}
 use Rattle.repairer.specs.Answer.{repair_answer, main_after}
-use Rattle.repairer.specs.declared.Repaired.TheVariants.{Block}
 use Rattle.pooling.specs.Pool.{MarkedBytes, with_marks, byte_at, marked_at, pooled, zeroed}
-use Rattle.pooling.specs.Answer.{pool_sized, pool_marks_fit, pool_answer, pool_after, pool_number}
+use Rattle.pooling.specs.Answer.{pool_sized, pool_marks_fit, pool_answer, pool_after}
 use Rattle.pooling.specs.Rows.{is_right, is_covered, wrong_in, is_poolable, row_of_reading, unpoolable_rows}
-use Rattle.pooling.specs.declared.Pooling.TheVariants.{Pooled}
 use Rattle.pooling.proofs.Laws.{pool_self, pooled-length, pooled-erasures-length, pooled-bytes, pooled_marks_fit}
 use Rattle.pooling.proofs.Rows.{pooled_row, pooled_load}
 use Rattle.blockreader.proofs.Numbers.{marks_length, marks_fit_lem}
@@ -73,13 +68,13 @@ reading_of xs b = with_marks (block_bytes xs b) (block_erasures xs b)
 -- readings held before, and the main data buffer held old
 pub record ByPooling (main : List ℕ) (first : ℕ) (xs zs : List ℕ) (b d : Buffers) (old : List ℕ) : Type 0 where
   -- no sector of either is refused,
-  pub sectors : (k : ℕ) → k < sector_count → (sector_read_number (call_answer xs b k) ≡ 0) × (sector_read_number (call_answer zs d k) ≡ 0)
+  pub sectors : (k : ℕ) → k < sector_count → (answer_number (call_answer xs b k) ≡ 0) × (answer_number (call_answer zs d k) ≡ 0)
   -- nor is the pooling,
-  pub pooling : pool_number (pool_answer (reading_of xs b) (reading_of zs d)) ≡ 0
+  pub pooling : answer_number (pool_answer (reading_of xs b) (reading_of zs d)) ≡ 0
   -- the repairer gets what it leaves of the first reading, refuses nothing and hands out the first number
   pub answer :
       let left = pool_after (reading_of xs b) (reading_of zs d) in
-      repair_answer left.bytes left.erasures (length old) ≡ Block first (tallies_of left.bytes left.erasures)
+      repair_answer left.bytes left.erasures (length old) ≡ Ok (record { first = first; tallies = tallies_of left.bytes left.erasures })
   -- and the main data
   pub main_data :
       let left = pool_after (reading_of xs b) (reading_of zs d) in
@@ -99,10 +94,10 @@ pub record Sized (a : MarkedBytes) : Type 0 where
   pub is-bytes : Bytes a.bytes
 
 pub record TwoReadings : Type 0 where
-  pub row : {previous : Previous} (main : List ℕ) (first info : ℕ) → Accepted previous main first info → (a b : MarkedBytes) → Sized a → Sized b → (q : ℕ) → q < row_count
+  pub row : {previous : Option ℕ} (main : List ℕ) (first info : ℕ) → Accepted previous main first info → (a b : MarkedBytes) → Sized a → Sized b → (q : ℕ) → q < row_count
       → T (is_poolable 10 (row_of (block main first info) q) (row_of_reading a q) (row_of_reading b q))
       → nearest_erased 10 (row_of (pooled a b).erasures q) (row_of (pooled a b).bytes q) ≡ row_of (block main first info) q
-  pub back : {previous : Previous} (main : List ℕ) (first info : ℕ) → Accepted previous main first info → (xs zs : List ℕ) → length xs ≡ stream_size → length zs ≡ stream_size
+  pub back : {previous : Option ℕ} (main : List ℕ) (first info : ℕ) → Accepted previous main first info → (xs zs : List ℕ) → length xs ≡ stream_size → length zs ≡ stream_size
       → unpoolable_rows (block main first info) (reading_of_block xs) (reading_of_block zs) ≤ 8 → PooledOut main first xs zs
   pub damaged : (before : List BlockInput) (i : BlockInput) (after : List BlockInput)
       → let run = before ++ i ∷ after in
@@ -114,7 +109,7 @@ pub record TwoReadings : Type 0 where
 
 -- ---- and proved
 
-module _ {previous : Previous} (main : List ℕ) (first info : ℕ) (ok : Accepted previous main first info) (a b : MarkedBytes) (sa : Sized a) (sb : Sized b) where
+module _ {previous : Option ℕ} (main : List ℕ) (first info : ℕ) (ok : Accepted previous main first info) (a b : MarkedBytes) (sa : Sized a) (sb : Sized b) where
   abbrev made : List ℕ
   made = block main first info
 
@@ -175,7 +170,7 @@ module _ (xs zs : List ℕ) where
   read_marks_fit = rw (marks_fit_lem xs, marks_fit_lem zs)
 
   -- the call that pools refuses nothing,
-  pool_answer_lem : pool_answer (reading_of_block xs) (reading_of_block zs) ≡ Pooled
+  pool_answer_lem : pool_answer (reading_of_block xs) (reading_of_block zs) ≡ Ok tt
   unfolding pool_answer
   pool_answer_lem = rw (read_sized, read_marks_fit)
 
@@ -184,7 +179,7 @@ module _ (xs zs : List ℕ) where
   unfolding pool_after
   pool_after_lem = rw (read_sized, read_marks_fit)
 
-module _ {previous : Previous} (main : List ℕ) (first info : ℕ) (ok : Accepted previous main first info) (xs zs : List ℕ) (wx : length xs ≡ stream_size) (wz : length zs ≡ stream_size) where
+module _ {previous : Option ℕ} (main : List ℕ) (first info : ℕ) (ok : Accepted previous main first info) (xs zs : List ℕ) (wx : length xs ≡ stream_size) (wz : length zs ≡ stream_size) where
   pooled_out : unpoolable_rows (block main first info) (reading_of_block xs) (reading_of_block zs) ≤ 8 → PooledOut main first xs zs
   pooled_out few b d old lb ld l =
       let x = reading_of_block xs in
@@ -201,9 +196,9 @@ module _ {previous : Previous} (main : List ℕ) (first info : ℕ) (ok : Accept
       let marks = both_marks_length main first info ok x z sx sz in
       record {
         sectors = λ k h. (call_number≡0 xs b wx lb k h, call_number≡0 zs d wz ld k h);
-        pooling = ap pool_number (ap₂ pool_answer e f ∙ pool_answer_lem xs zs);
+        pooling = ap answer_number (ap₂ pool_answer e f ∙ pool_answer_lem xs zs);
         answer =
-            subst (λ (v : MarkedBytes). repair_answer v.bytes v.erasures (length old) ≡ Block first (tallies_of v.bytes v.erasures)) (sym left)
+            subst (λ (v : MarkedBytes). repair_answer v.bytes v.erasures (length old) ≡ Ok (record { first = first; tallies = tallies_of v.bytes v.erasures })) (sym left)
             (rw l (handed_out main first info ok w.bytes w.erasures size bytes near marks (pooled_marks_fit x z)));
         main_data =
             subst (λ (v : MarkedBytes). main_after v.bytes v.erasures old ≡ main) (sym left)
@@ -278,9 +273,9 @@ two_readings = record {
 -- ---- a reading pooled with itself
 
 -- an unknown word is read as 0
-unknown_read : (r : Reading) → cond (is_unknown r) 0 (reading_byte r) ≡ reading_byte r
-unknown_read (Byte b) = refl
-unknown_read Unknown = refl
+unknown_read : (r : Option ℕ) → cond (is_unknown r) 0 (reading_byte r) ≡ reading_byte r
+unknown_read (Some b) = refl
+unknown_read None = refl
 
 -- so that the sector reader's reading, pooled with itself, is that reading
 pub read_pool_self : (xs : List ℕ) → pooled (reading_of_block xs) (reading_of_block xs) ≡ reading_of_block xs

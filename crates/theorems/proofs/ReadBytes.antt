@@ -3,6 +3,7 @@
 use mathlib.Core.Path.{◌≡◌, refl, sym, ap, subst, ◌∙◌}
 use mathlib.Core.List.{List}
 use Prim.Native.Nat.{ℕ, zero, suc, ◌+◌, ◌<◌, ◌≤◌}
+use Rattle.std.specs.Prelude.{Option, Some, None}
 use native.Mathlib.Nat.{not-suc-le-zero, le_of_suc-le-suc}
 use native.Mathlib.Omega.{arith}
 use lib.ListN.{length}
@@ -10,8 +11,6 @@ use Rattle.lists.specs.Bytes.{Bytes}
 use Rattle.lists.proofs.Bytes.{tabulate-bytes}
 use Rattle.lists.proofs.Fill.{length-tabulate}
 use Rattle.annexg.specs.Read.{table_of, read_word}
-use Rattle.annexg.specs.declared.Reading.{Reading}
-use Rattle.annexg.specs.declared.Reading.TheVariants.{Byte, Unknown}
 use Rattle.annexg.proofs.Search.{length_main, length-sub}
 use Rattle.annexg.proofs.Stands.{read_stands}
 use Rattle.channel.specs.Block.{reading_byte, read_at, read_block}
@@ -28,9 +27,9 @@ table_long (suc (suc t)) h = absurd (not-suc-le-zero (le_of_suc-le-suc (le_of_su
 word_byte_lem : (w f : ℕ) → reading_byte (read_word w f) < 256
 word_byte_lem w f = go (read_word w f) refl
   where
-    go : (r : Reading) → read_word w f ≡ r → reading_byte r < 256
-    go (Byte b) e = let s = read_stands w f b e in omega (arith, s.row_small, table_long s.table_no_lem s.table_small)
-    go Unknown e = omega arith
+    go : (r : Option ℕ) → read_word w f ≡ r → reading_byte r < 256
+    go (Some b) e = let s = read_stands w f b e in omega (arith, s.row_small, table_long s.table_no_lem s.table_small)
+    go None e = omega arith
 
 read_byte : (xs : List ℕ) (i : ℕ) → read_at xs i < 256
 unfolding read_at

@@ -5,6 +5,7 @@ use mathlib.Core.Path.{◌≡◌, refl, sym, ap, subst, ◌∙◌}
 use mathlib.Core.Bool.{Bool, true, false, not, ◌&&◌}
 use mathlib.Core.List.{List}
 use Prim.Native.Nat.{ℕ, ◌+◌, ◌*◌, ◌<◌, ◌≤◌}
+use Rattle.std.specs.Prelude.{Option}
 use native.Mathlib.Omega.{arith}
 use borrow.Author.Tests.{eq-eqb, le-ltb}
 use lib.Dec.{T, eqb, ltb→lt, lt→ltb}
@@ -19,7 +20,6 @@ use Rattle.layout.specs.Rows.{row_of}
 use Rattle.layout.proofs.Places.{row_byte}
 use Rattle.eccblock.specs.Block.{block}
 use Rattle.eccblock.specs.Encode.{Accepted}
-use Rattle.eccblock.specs.declared.Previous.{Previous}
 use Rattle.channel.specs.Block.{read_at, read_block, unknown_at, erasures_of_block, touched, touched_in, unknown_in, touched_known_in, overloaded, overloaded_rows}
 use Rattle.channel.proofs.Rows.{LaidBlock, reading, reading_known}
 use Rattle.channel.proofs.Sectors.{read_row, erasures_row, row_touched}
@@ -104,7 +104,7 @@ far_overloaded {bs} {ys} laid xs hx =
 
 -- THE ROW: of a made block, laid as permitted choices lay it and read as xs, every row with 2e + f at most ten, where f counts its unknown words as read and e its
 -- other touched bytes, comes back whole from the row repair with the sector reader's marks
-module _ {previous : Previous} (main : List ℕ) (first info : ℕ) (ok : Accepted previous main first info) {ys : List ℕ} (laid : LaidBlock (block main first info) ys)
+module _ {previous : Option ℕ} (main : List ℕ) (first info : ℕ) (ok : Accepted previous main first info) {ys : List ℕ} (laid : LaidBlock (block main first info) ys)
     (xs : List ℕ) (hx : Bytes xs) (r : ℕ) (hr : r < row_count) where
   pub row_comes_back : 2 * touched_known_in ys xs r + unknown_in xs r ≤ 10
       → nearest_erased 10 (row_of (erasures_of_block xs) r) (row_of (read_block xs) r) ≡ row_of (block main first info) r

@@ -5,13 +5,12 @@ use mathlib.Core.Path.{◌≡◌, refl, sym, ap, subst}
 use mathlib.Core.Bool.{Bool}
 use mathlib.Core.List.{List, [], ◌∷◌, ◌++◌}
 use Prim.Native.Nat.{ℕ}
+use Rattle.std.specs.Prelude.{Option, Some, None}
 use lib.Dec.{T}
 use lib.ListN.{length}
 use Rattle.layout.specs.Sectors.{block_part}
 use Rattle.eccblock.specs.Encode.{Accepted}
 use Rattle.eccblock.specs.Run.{BlockInput, AcceptedRun, made_block, run_blocks}
-use Rattle.eccblock.specs.declared.Previous.{Previous}
-use Rattle.eccblock.specs.declared.Previous.TheVariants.{None, First}
 use Rattle.eccblock.proofs.Runs.{accepted_any}
 use Rattle.channel.specs.Block.{Blocks, permitted_run, run_stream}
 use Rattle.channel.proofs.Rows.{LaidBlock}
@@ -19,11 +18,11 @@ use Rattle.channel.proofs.Runs.{block_part_lem}
 use Rattle.formatter.proofs.Runs.{accepted_blocks, blocks_length}
 
 -- block i of a run
-pub accepted_at : (previous : Previous) (before : List BlockInput) (i : BlockInput) (after : List BlockInput) → AcceptedRun previous (before ++ i ∷ after)
+pub accepted_at : (previous : Option ℕ) (before : List BlockInput) (i : BlockInput) (after : List BlockInput) → AcceptedRun previous (before ++ i ∷ after)
     → Accepted None i.main i.first i.info
 unfolding AcceptedRun
 accepted_at previous [] i after (ok, oks) = accepted_any ok
-accepted_at previous (a ∷ before) i after (ok, oks) = accepted_at (First a.first) before i after oks
+accepted_at previous (a ∷ before) i after (ok, oks) = accepted_at (Some a.first) before i after oks
 
 blocks_append : (before : List BlockInput) (i : BlockInput) (after : List BlockInput) → run_blocks (before ++ i ∷ after) ≡ run_blocks before ++ made_block i ∷ run_blocks after
 unfolding run_blocks

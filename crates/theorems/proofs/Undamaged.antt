@@ -5,6 +5,7 @@ use mathlib.Core.Path.{◌≡◌, refl, sym, ap, ap₂, subst, ◌∙◌, ◌≡
 use mathlib.Core.Bool.{Bool, true, false, not}
 use mathlib.Core.List.{List, ◌∷◌, ◌++◌}
 use Prim.Native.Nat.{ℕ, zero, suc, ◌+◌, ◌*◌, ◌/◌, ◌%◌, ◌<◌, ◌≤◌}
+use Rattle.std.specs.Prelude.{Option, None, Ok}
 use native.Mathlib.Omega.{arith}
 use borrow.Author.Tests.{eq-eqb, le-ltb}
 use lib.Dec.{T, eqb}
@@ -25,7 +26,6 @@ use Rattle.codes.proofs.Words.{code_of_test}
 use Rattle.codes.proofs.Nearest.{outcome_clean}
 use Rattle.codes.proofs.Erasures.{Within, errors_self≡0, within_test, nearest-within, self_within, outcome_clean_within}
 use Rattle.annexg.specs.Read.{read_word}
-use Rattle.annexg.specs.declared.Reading.{Reading}
 use Rattle.annexg.specs.Sync.{code_for}
 use Rattle.annexg.proofs.Sync.{code_is-sync}
 use Rattle.layout.specs.Lengths.{main_size, block_size, sector_size, stream_size, row_count, row_size, column_count}
@@ -33,8 +33,6 @@ use Rattle.eccblock.specs.Block.{block}
 use Rattle.layout.specs.Rows.{row_of, column_of}
 use Rattle.eccblock.specs.Encode.{Accepted}
 use Rattle.eccblock.specs.Run.{BlockInput, AcceptedRun, run_blocks}
-use Rattle.eccblock.specs.declared.Previous.{Previous}
-use Rattle.eccblock.specs.declared.Previous.TheVariants.{None}
 use Rattle.eccblock.proofs.Cells.{code_row_length}
 use Rattle.eccblock.proofs.Laws.{block_length, block_bytes_lem, block_row, block_column, block_row_code, block_column_code, code_row_bytes, code_column_bytes}
 use Rattle.layout.specs.Sectors.{frame_codes, code_of, half_of, sector_part, block_part}
@@ -47,15 +45,12 @@ use Rattle.channel.proofs.Runs.{laid_length}
 use Rattle.channel.proofs.Undisturbed.{SyncAt, word_known, sync_known}
 use Rattle.reader.specs.Sector.{lost_sync, unknown_tally, sync_tally}
 use Rattle.reader.specs.Session.{Buffers, Lent, call_answer, block_bytes, block_erasures}
-use Rattle.reader.specs.declared.SectorRead.TheVariants.{Sector}
 use Rattle.reader.proofs.Calls.{call_answer≡tallies, block_bytes≡read_block, block_erasures≡erasures_of_block}
 use Rattle.repairer.specs.Repair.{rows_repaired, is_corrected, is_uncorrectable, tally_of, tallies_of}
 use Rattle.repairer.specs.Answer.{marks_fit, repair_answer}
 use Rattle.repairer.specs.declared.Tally.{Tally}
 use Rattle.repairer.specs.declared.Tallies.{Tallies}
-use Rattle.repairer.specs.declared.Repaired.TheVariants.{Block as RepairedBlock}
 use Rattle.blockreader.specs.BlockReader.{sector_sum, block_fits, block_read_answer}
-use Rattle.blockreader.specs.declared.BlockRead.TheVariants.{Block}
 use Rattle.blockreader.proofs.Numbers.{marks_length, marks_fit_lem}
 use Rattle.theorems.proofs.Chain.{far_row, far_rows, handed_out}
 use Rattle.theorems.proofs.Runs.{accepted_at, run_part}
@@ -71,10 +66,11 @@ no_tallies = record { rows = no_tally; columns = no_tally }
 pub record Undamaged (main : List ℕ) (first : ℕ) (xs : List ℕ) : Type 0 where
   pub read : HandedOut main first xs
   -- by the calls: in no sector an unknown word or a lost SYNC Code, in the block no row or column to repair,
-  pub sectors : (b : Buffers) → Lent b → (k : ℕ) → k < 16 → call_answer xs b k ≡ Sector 0 0
-  pub answer : (b : Buffers) → Lent b → repair_answer (block_bytes xs b) (block_erasures xs b) main_size ≡ RepairedBlock first no_tallies
+  pub sectors : (b : Buffers) → Lent b → (k : ℕ) → k < 16 → call_answer xs b k ≡ Ok (record { unknown = 0; sync = 0 })
+  pub answer : (b : Buffers) → Lent b → repair_answer (block_bytes xs b) (block_erasures xs b) main_size ≡ Ok (record { first = first; tallies = no_tallies })
   -- and by the one call of the whole-block reader
-  pub whole_answer : block_read_answer xs block_size block_size main_size ≡ Block first no_tallies 0 0
+  pub whole_answer : block_read_answer xs block_size block_size main_size
+      ≡ Ok (record { first = first; tallies = no_tallies; unknown = 0; sync = 0 })
 
 -- ---- the repairer's tallies of a made block
 
@@ -87,7 +83,7 @@ no_tally_lem o n h =
     (count_none (λ i. is_uncorrectable (o i)) 0 n (λ i l. ap is_uncorrectable (h (0 + i) (omega arith))))
 
 -- a made block, and marks of its bytes that are all 0
-module _ {previous : Previous} (main : List ℕ) (first info : ℕ) (ok : Accepted previous main first info) (ms : List ℕ) (unmarked : (i : ℕ) → i < block_size → get_or ms i 0 ≡ 0) where
+module _ {previous : Option ℕ} (main : List ℕ) (first info : ℕ) (ok : Accepted previous main first info) (ms : List ℕ) (unmarked : (i : ℕ) → i < block_size → get_or ms i 0 ≡ 0) where
   abbrev made : List ℕ
   made = block main first info
 
@@ -152,12 +148,12 @@ module _ {previous : Previous} (main : List ℕ) (first info : ℕ) (ok : Accept
       (omega (arith, errors_self≡0 (row_of ms (0 + q)) (row_of made (0 + q)), marks_none (0 + q) (omega arith))))
 
   -- an undamaged block buffer is handed out, and nothing is tallied
-  made_handed_out : length ms ≡ block_size → marks_fit ms ≡ true → repair_answer made ms main_size ≡ RepairedBlock first no_tallies
+  made_handed_out : length ms ≡ block_size → marks_fit ms ≡ true → repair_answer made ms main_size ≡ Ok (record { first = first; tallies = no_tallies })
   made_handed_out sized marks =
       handed_out main first info ok made ms (block_length main first info ok) (block_bytes_lem main first info ok) (omega (arith, far_self≡0)) sized marks
-      ∙ ap (RepairedBlock first) no_tallies_lem
+      ∙ ap (λ (t : Tallies). Ok (record { first = first; tallies = t })) no_tallies_lem
 
-module _ {previous : Previous} (main : List ℕ) (first info : ℕ) (ok : Accepted previous main first info) where
+module _ {previous : Option ℕ} (main : List ℕ) (first info : ℕ) (ok : Accepted previous main first info) where
   abbrev laid_block : List ℕ
   laid_block = block main first info
 
@@ -210,13 +206,13 @@ module _ {previous : Previous} (main : List ℕ) (first info : ℕ) (ok : Accept
     unfolding unknown_at
     unmarked i l =
         ap (λ (ys : List ℕ). get_or ys i 0) (erasures_block laid) ∙ get_d_tabulate (λ i. bit (unknown_at laid i)) block_size i l
-        ∙ ap (λ (r : Reading). bit (is_unknown r)) (word_known m i l)
+        ∙ ap (λ (r : Option ℕ). bit (is_unknown r)) (word_known m i l)
 
     laid_handed_out : HandedOut main first laid
     laid_handed_out =
         near_handed_out main first info ok laid whole (rw reads_made (omega (arith, far_self≡0 main first info ok (erasures_of_block laid) unmarked)))
 
-    answers : repair_answer (read_block laid) (erasures_of_block laid) main_size ≡ RepairedBlock first no_tallies
+    answers : repair_answer (read_block laid) (erasures_of_block laid) main_size ≡ Ok (record { first = first; tallies = no_tallies })
     answers =
         ap (λ (b : List ℕ). repair_answer b (erasures_of_block laid) main_size) reads_made
         ∙ made_handed_out main first info ok (erasures_of_block laid) unmarked (marks_length laid) (marks_fit_lem laid)
@@ -226,12 +222,12 @@ module _ {previous : Previous} (main : List ℕ) (first info : ℕ) (ok : Accept
     unfolding block_read_answer block_fits
     undamaged = record {
       read = laid_handed_out;
-      sectors = λ b lent k h. call_answer≡tallies laid b whole lent k h ∙ ap₂ Sector (unknown_none k h) (lost_none k h);
+      sectors = λ b lent k h. call_answer≡tallies laid b whole lent k h ∙ ap₂ (λ (u s : ℕ). Ok (record { unknown = u; sync = s })) (unknown_none k h) (lost_none k h);
       answer = λ b lent.
           ap₂ (λ (x y : List ℕ). repair_answer x y main_size) (block_bytes≡read_block laid b whole lent) (block_erasures≡erasures_of_block laid b whole lent) ∙ answers;
       whole_answer =
           rw (eq-eqb (length laid) stream_size whole, answers)
-          (ap₂ (Block first no_tallies) (sum-none unknown_tally unknown_none 16 0 (omega arith)) (sum-none sync_tally lost_none 16 0 (omega arith)));
+          (ap₂ (λ (u s : ℕ). Ok (record { first = first; tallies = no_tallies; unknown = u; sync = s })) (sum-none unknown_tally unknown_none 16 0 (omega arith)) (sum-none sync_tally lost_none 16 0 (omega arith)));
     }
 
 -- each block of a run's permitted stream
@@ -243,7 +239,7 @@ run_undamaged before i after ok cs p = undamaged i.main i.first i.info (accepted
 
 -- a block by itself, with the closing code after it
 pub block_undamaged :
-    {previous : Previous} (main : List ℕ) (first info : ℕ) (ok : Accepted previous main first info) (cs : List Bool) → T (permitted_choices (block main first info) cs)
+    {previous : Option ℕ} (main : List ℕ) (first info : ℕ) (ok : Accepted previous main first info) (cs : List Bool) → T (permitted_choices (block main first info) cs)
     → Undamaged main first (permitted_stream (block main first info) cs)
 block_undamaged main first info ok cs p =
     undamaged main first info ok (laid_alone (block main first info) cs (block_length main first info ok) (block_bytes_lem main first info ok) p)

@@ -1,9 +1,9 @@
 pub mod Sectors
 pub mod Signed
 pub mod Sound
-pub mod Numbers
 pub mod Takes
 pub mod Calls
 pub mod Runs
 pub mod Each
 pub mod Examples
+pub mod Answered

@@ -10,6 +10,9 @@ use native.Mathlib.Omega.{arith}
 use lib.Dec.{T}
 use lib.ListN.{length, take, drop, length-take, length-drop}
 use lib.Seq.{sets, take_all}
+use Rattle.std.specs.Prelude.{Option, Some, MatchOption}
+use Rattle.std.specs.Array.{IsWholeChunk}
+use Rattle.std.proofs.Common.{Bor}
 use Rattle.lists.specs.Bytes.{Bytes}
 use Rattle.lists.proofs.Bytes.{take-bytes}
 use Rattle.annexg.specs.Read.{State}
@@ -52,6 +55,14 @@ module _ (bs : List ℕ) (k : ℕ) where
       ap length lent_is
       ∙ length-take frame_bytes (drop (frame_bytes * k) bs)
       ∙ omega (arith, length-drop (frame_bytes * k) bs)
+
+-- a part that is lent as an array is the part
+pub some_same :
+    {o : Option (Bor (List ℕ))} {y : Bor (List ℕ)} {xs : List ℕ} (n : ℕ) (N : Type 0)
+    → o ≡ Some y → MatchOption o N (λ z. IsWholeChunk xs z.now n) → y.now ≡ xs
+some_same {o} {y} {xs} n N e h =
+    let g : MatchOption (Some y) N (λ z. IsWholeChunk xs z.now n) = subst (λ p. MatchOption p N (λ z. IsWholeChunk xs z.now n)) e h in
+    g.same
 
 -- what `frames::frame` promises, with the buffers x and y at exit
 abbrev pub Framed : Running → ℕ → List ℕ → List ℕ → List ℕ → Shown → Type 0
@@ -180,12 +191,12 @@ laying_all {r} {running} {p} {peak} {bs} {out} {k} e l h = (
 
 -- ---- a frame may begin before each of the 26
 
-module _ {r running : Running} {p peak : ℕ} {bs o out : List ℕ} {k : ℕ} (g : SectorBegins r bs o) (l : Laying r running p peak bs out k)
+module _ {r running : Running} {p peak : ℕ} {bs out : List ℕ} {k : ℕ} (g : SectorBegins r) (l : Laying r running p peak bs out k)
     (h : k < sector_frames) where
-  sector_state : Bytes bs → State running.state
-  sector_state hb =
+  sector_state : length bs ≡ sector_size → Bytes bs → State running.state
+  sector_state lb hb =
       let front = take (frame_bytes * k) bs in
-      let e : length front ≡ frame_bytes * k = length-take (frame_bytes * k) bs ∙ omega (arith, g.bytes) in
+      let e : length front ≡ frame_bytes * k = length-take (frame_bytes * k) bs ∙ omega (arith, lb) in
       let proper = frames-proper k 0 front e (take-bytes (frame_bytes * k) bs hb) in
       let p = subst (λ (z : List Item). T (all_proper z)) (frames-take k 0 bs) proper in
       subst (λ (z : Running). State z.state) (sym l.running-is)
@@ -197,16 +208,5 @@ module _ {r running : Running} {p peak : ℕ} {bs o out : List ℕ} {k : ℕ} (g
       subst (λ (z : Running). Room z frame_bits) (sym l.running-is)
       (laid_room r (frames 0 k bs) (frames_of r bs k) (93 * k) frame_bits (frames_laid r bs k) room (width_frames k 0 bs))
 
-  pub frame_begins :
-      {x y : List ℕ} → Bytes bs → length x ≡ frame_stream → length y ≡ frame_stream → length out ≡ sector_stream
-      → FrameBegins running k bs x y out
-  frame_begins hb lx ly lo =
-      record {
-        number = h;
-        state = sector_state hb;
-        room = sector_room_lem;
-        bytes = g.bytes;
-        one = lx;
-        two = ly;
-        whole = lo;
-      }
+  pub frame_begins : length bs ≡ sector_size → Bytes bs → FrameBegins running k
+  frame_begins lb hb = record { number = h; state = sector_state lb hb; room = sector_room_lem }

@@ -3,9 +3,10 @@
 use mathlib.Core.Path.{◌≡◌, refl, sym, ap, ap₂, subst, ◌∙◌}
 use mathlib.Core.Bool.{Bool, true, false, not, cond, ◌&&◌, ◌||◌}
 use mathlib.Core.List.{List}
-use Prim.Native.Nat.{ℕ, ◌+◌, ◌-◌, ◌*◌, ◌<◌, ◌≤◌, max}
+use mathlib.Core.Logic.{◌⊎◌, inl, inr}
+use Prim.Native.Nat.{ℕ, ◌+◌, ◌*◌, ◌<◌, ◌≤◌, max}
 use native.Mathlib.Omega.{arith}
-use borrow.Author.Tests.{eqb-true, leb-true, leb-false, le-leb, lt-leb, lt-ltb, le-ltb, ltb-true, ltb-false, eq-eqb, ne_eqb}
+use borrow.Author.Tests.{eqb-true, le-leb, lt-leb, le-ltb, ltb-false, eq-eqb, ne_eqb}
 use lib.Dec.{T, eqb, ltb, leb, leb→le, le→leb}
 use lib.IntN.{nat_abs}
 use lib.ListN.{length}
@@ -62,28 +63,17 @@ sound_rest w p q r s e f t u =
     sound_by w true true true true e f
     (le-leb 1 w.state p) (le-leb w.state 4 q) (le-leb w.level 1 r) (le-leb w.sectors run_sectors s) t u
 
--- a peak over 38,688 times the sectors
-pub peak_over : (w : Record) → sector_bits * w.sectors < w.peak → in_range w ≡ false
-peak_over w h =
-    ap (λ (x : Bool). dsv_in_range w && (dsv_below_peak w && x)) (lt-leb w.peak (sector_bits * w.sectors) h)
-    ∙ ap (λ (x : Bool). dsv_in_range w && x) (and_false (dsv_below_peak w))
-    ∙ and_false (dsv_in_range w)
-
--- a DSV beyond 2^40 is beyond every limit
-pub too_far : (w : Record) → w.sectors ≤ run_sectors → leb (nat_abs w.dsv) zero_at ≡ false → in_range w ≡ false
-too_far w h e =
-    let far = lt-leb (nat_abs w.dsv) (limit_of w) (omega (arith, leb-false (nat_abs w.dsv) zero_at e, bit_le w.closed)) in
-    ap (λ (x : Bool). x && (dsv_below_peak w && peak_in_range w)) far
-
--- a DSV that is not above a peak in its range is in its own range
-pub dsv_by_peak : (w : Record) → w.peak ≤ sector_bits * w.sectors → dsv_below_peak w ≡ in_range w
-dsv_by_peak w h = by (dsv_below_peak w) refl
-  where
-    by : (x : Bool) → dsv_below_peak w ≡ x → x ≡ in_range w
-    by true e =
-        let dsv = le-leb (nat_abs w.dsv) (limit_of w) (omega (arith, leb-true (nat_abs w.dsv) (above_of w) e)) in
-        sym (ap₂ ◌&&◌ dsv (ap₂ ◌&&◌ e (le-leb w.peak (sector_bits * w.sectors) h)))
-    by false e = sym (ap (λ (x : Bool). dsv_in_range w && (x && peak_in_range w)) e ∙ and_false (dsv_in_range w))
+-- one of the first four does not
+pub unsound :
+    (w : Record)
+    → (w.state < 1)
+    ⊎ ((1 ≤ w.state × 4 < w.state) ⊎ ((1 ≤ w.state × w.state ≤ 4 × 1 < w.level) ⊎ (1 ≤ w.state × w.state ≤ 4 × w.level ≤ 1 × run_sectors < w.sectors)))
+    → false ≡ sound w
+unsound w (inl p) = sound_by w false _ _ _ _ _ (lt-leb 1 w.state p) refl refl refl refl refl
+unsound w (inr (inl h)) = sound_by w true false _ _ _ _ (le-leb 1 w.state h.0) (lt-leb w.state 4 h.1) refl refl refl refl
+unsound w (inr (inr (inl h))) = sound_by w true true false _ _ _ (le-leb 1 w.state h.0) (le-leb w.state 4 h.1) (lt-leb w.level 1 h.2) refl refl refl
+unsound w (inr (inr (inr h))) =
+    sound_by w true true true false _ _ (le-leb 1 w.state h.0) (le-leb w.state 4 h.1) (le-leb w.level 1 h.2) (lt-leb w.sectors run_sectors h.3) refl refl
 
 pub sector_by :
     (w : Record) (from to : ℕ) (a b c d : Bool) → eqb from sector_size ≡ a → eqb to sector_stream ≡ b → sound w ≡ c → ended w 1 ≡ d
@@ -103,37 +93,22 @@ closing_by w to a c d e p r s t =
     (ap₂ (λ (x y : Bool). cond x (cond y (cond w.closed 7 (cond (closes w.sectors) 0 8)) 9) 1) p r
     ∙ ap₂ (λ (x y : Bool). cond a (cond c (cond x 7 (cond y 0 8)) 9) 1) s t)
 
--- the answer because of the state, where the lengths are right
+-- a length that is not right, and the state where both are
+pub from_length : (w : Record) (from to : ℕ) → (from ≡ sector_size → ⊥) → 1 ≡ sector_refusal w from to
+unfolding sector_refusal
+from_length w from to h = rw (ne_eqb from sector_size h) refl
+
+pub to_length : (w : Record) (from to : ℕ) → (to ≡ sector_stream → ⊥) → 1 ≡ sector_refusal w from to
+unfolding sector_refusal
+to_length w from to h = rw (ne_eqb to sector_stream h, and_false (eqb from sector_size)) refl
+
 pub sector_by_state :
-    (w : Record) (from to k : ℕ) (s e : Bool) → from ≡ sector_size → to ≡ sector_stream → s ≡ sound w → e ≡ ended w 1
-    → k ≡ cond s (cond e 7 0) 9 → k ≡ sector_refusal w from to
-sector_by_state w from to k s e f t se ee h =
-    h
-    ∙ ap₂ (λ (x y : Bool). cond x (cond y 7 0) 9) se ee
-    ∙ sector_by w from to true true (sound w) (ended w 1) (eq-eqb from sector_size f) (eq-eqb to sector_stream t) refl refl
+    (w : Record) (from to : ℕ) → from ≡ sector_size → to ≡ sector_stream → cond (sound w) (cond (ended w 1) 7 0) 9 ≡ sector_refusal w from to
+sector_by_state w from to f t = sector_by w from to true true (sound w) (ended w 1) (eq-eqb from sector_size f) (eq-eqb to sector_stream t) refl refl
 
-pub block_by_state : (w : Record) (k : ℕ) (s e : Bool) → s ≡ sound w → e ≡ ended w sector_count → k ≡ cond s (cond e 7 0) 9 → k ≡ block_refusal w
-unfolding block_refusal
-block_by_state w k s e se ee h = h ∙ ap₂ (λ (x y : Bool). cond x (cond y 7 0) 9) se ee
-
--- the run's end, tested without a sum
-pub more_ended : (n more : ℕ) → more ≤ run_sectors → ltb (run_sectors - more) n ≡ ltb run_sectors (n + more)
-more_ended n more h = by (ltb (run_sectors - more) n) refl
-  where
-    by : (x : Bool) → ltb (run_sectors - more) n ≡ x → x ≡ ltb run_sectors (n + more)
-    by true e = sym (lt-ltb run_sectors (n + more) (omega (arith, ltb-true (run_sectors - more) n e)))
-    by false e = sym (le-ltb run_sectors (n + more) (omega (arith, ltb-false (run_sectors - more) n e)))
-
-unfinished : (b : Bool) → ◌≡◌ {A = ℕ} (cond (not b) 8 0) (cond b 0 8)
-unfinished true = refl
-unfinished false = refl
-
-pub closing_by_state :
-    (w : Record) (to k : ℕ) (s e : Bool) → to ≡ closing_size → s ≡ sound w → e ≡ closes w.sectors
-    → k ≡ cond s (cond w.closed 7 (cond (not e) 8 0)) 9 → k ≡ closing_refusal w to
-closing_by_state w to k s e t se ee h =
-    h ∙ ap₂ (λ (x : Bool) (y : ℕ). cond x (cond w.closed 7 y) 9) se (unfinished e ∙ ap (λ (x : Bool). cond x 0 8) ee)
-    ∙ closing_by w to true (sound w) w.closed (closes w.sectors) (eq-eqb to closing_size t) refl refl refl
+pub closing_length : (w : Record) (to : ℕ) → (to ≡ closing_size → ⊥) → 1 ≡ closing_refusal w to
+unfolding closing_refusal
+closing_length w to h = rw (ne_eqb to closing_size h) refl
 
 -- ---- a sound record, part by part
 
@@ -286,6 +261,11 @@ sectors_open w from to z = by (eqb from block_size) (eqb to sectors_stream) refl
     by true false p q z = absurd (omega arith)
     by true true p q z = record { from_is = eqb-true from block_size p; to_is = eqb-true to sectors_stream q; opened = block_opens w z }
 
+pub sectors_length : (w : Record) (from to : ℕ) → (from ≡ block_size → ⊥) ⊎ ((from ≡ block_size) × (to ≡ sectors_stream → ⊥)) → 1 ≡ sectors_refusal w from to
+unfolding sectors_refusal
+sectors_length w from to (inl h) = rw (ne_eqb from block_size h) refl
+sectors_length w from to (inr h) = rw (ne_eqb to sectors_stream h.1, and_false (eqb from block_size)) refl
+
 pub sectors_by :
     (w : Record) (from to : ℕ) (a b : Bool) → eqb from block_size ≡ a → eqb to sectors_stream ≡ b → cond (a && b) (block_refusal w) 1 ≡ sectors_refusal w from to
 unfolding sectors_refusal
@@ -318,13 +298,11 @@ closing_opens w to z =
         record { to_is = eqb-true to closing_size p; is = sound-is w (subst T (sym r) tt); open_yet = s; full = subst T (sym t) tt }
 
 pub sector_begins :
-    (w : Record) (bs out : List ℕ) → OpenSector w (length bs) (length out) → SectorBegins (running_of w) bs out
-sector_begins w bs out o =
+    (w : Record) (from to : ℕ) → OpenSector w from to → SectorBegins (running_of w)
+sector_begins w from to o =
     record {
       state = o.opened.is.state;
       room = sound-room w o.opened.is sector_bits (omega arith);
-      bytes = o.from_is;
-      whole = o.to_is;
     }
 
 -- ---- record and buffer at exit, by the number

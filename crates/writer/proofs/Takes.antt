@@ -13,9 +13,7 @@ use borrow.Author.Tests.{eqb-true, eqb-false, eq-eqb, ne_eqb}
 use lib.Dec.{eqb}
 use lib.IntN.{ℤ, pos, negsuc}
 use lib.ListN.{length}
-use Rattle.lists.proofs.Test.{and_false}
 use Rattle.octets.specs.Halves.{packed}
-use Rattle.layout.specs.Lengths.{sector_size, sector_stream}
 use Rattle.streams.specs.Frames.{sector_of}
 use Rattle.writer.specs.Answers.{sound, sector_refusal, sector_next, sector_out, sector_dsv, trial_next, same_dsv, mark_refusal, take_refusal, take_next, take_out}
 use Rattle.writer.specs.Answers.{sectors_refusal, sectors_next, closing_refusal, closing_next}
@@ -98,11 +96,6 @@ unfolding sectors_next
 sectors_drop w bs to z = rw (eq-eqb (sectors_refusal w (length bs) to) 0 z)
 
 -- ---- what the code answers and leaves at each return
-
--- a buffer of another length
-pub sector_length : (w : Record) (from to : ℕ) → (to ≡ sector_stream → ⊥) → 1 ≡ sector_refusal w from to
-unfolding sector_refusal
-sector_length w from to h = rw (ne_eqb to sector_stream h, and_false (eqb from sector_size))
 
 module _ (w : Record) (bs out : List ℕ) where
   -- the single write refuses

@@ -13,19 +13,7 @@ use Rattle.octets.specs.Halves.{packed}
 use Rattle.streams.specs.Frames.{sector_of, sectors_of, closing_of}
 use Rattle.layout.specs.Lengths.{block_size, sector_count, sector_size, sector_stream, sectors_stream, sector_bits, closing_size, run_sectors}
 use Rattle.writer.specs.Records.{running_of, marked_with, after_sector, after_block, after_closing}
-use Rattle.writer.specs.declared.Answer.{Answer}
-use Rattle.writer.specs.declared.Answer.TheVariants.{Done, LengthRefused, RunEnded, RunUnfinished, BadRecord, NotTried, OtherDsv}
 use Rattle.writer.specs.declared.Record.{Record}
-
--- the documents' number for each answer, 0 where nothing is refused
-abbrev pub answer_number : Answer → ℕ
-answer_number Done = 0
-answer_number LengthRefused = 1
-answer_number RunEnded = 7
-answer_number RunUnfinished = 8
-answer_number BadRecord = 9
-answer_number NotTried = 12
-answer_number OtherDsv = 13
 
 -- a count of sectors at which closing is accepted: whole blocks, at least one (document 02, request 1)
 abbrev pub closes : ℕ → Bool

@@ -1,9 +1,10 @@
 -- The writer's record, and what a sector, a block's sectors and the closing code make of it (document 01, "The choice between two streams"; document 02,
 -- request 4, for the peak, and request 5, for the mark).
 -- Assumes nothing.
-use Rattle.std.specs.Prelude.{Bool, true, false, List, ℕ, suc, ◌+◌, ◌*◌, ◌-◌, max, ℤ, pos, negsuc, ◌-ℤ◌, length}
+use Rattle.std.specs.Prelude.{Bool, true, false, List, ℕ, suc, ◌+◌, ◌*◌, ◌-◌, max, ℤ, pos, negsuc, ◌-ℤ◌, length, Result, Ok, Err}
 use Rattle.levels.specs.Level.{zero_at}
 use Rattle.levels.specs.declared.Running.{Running}
+use Rattle.refusals.specs.declared.Refusal.{Refusal}
 use Rattle.streams.specs.Frames.{sector_of, sectors_of, closing_of, run_of}
 use Rattle.streams.specs.Peak.{peak_of}
 use Rattle.streams.specs.Streams.{Stream}
@@ -66,3 +67,8 @@ after_run w run =
     let m = run_of (running_of w) run in
     let n = sector_count * length run in
     record_of m.running (peak_after w m n) (w.sectors + n) true
+
+-- the record after a call: the one that it hands back, or the old one where it refuses
+abbrev pub record_after : Record → Result Record Refusal → Record
+record_after w (Ok next) = next
+record_after w (Err refusal) = w

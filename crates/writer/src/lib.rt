@@ -7,12 +7,14 @@ mod sector;
 mod write;
 
 ghost use Rattle.std.specs.Prelude.{◌≡◌, length};
-ghost use Rattle.writer.specs.Records.{start};
-ghost use Rattle.writer.specs.Answers.{answer_number, sector_refusal, trial_next, take_refusal, take_next, take_out};
+ghost use Rattle.refusals.specs.Refusal.{answer_number};
+ghost use Rattle.writer.specs.Records.{start, record_after};
+ghost use Rattle.writer.specs.Answers.{sector_refusal, trial_next, take_refusal, take_next, take_out};
 ghost use Rattle.writer.specs.Answers.{sectors_refusal, sectors_next, sectors_out, closing_refusal, closing_next, closing_out};
 
-use layout::SECTOR_STREAM;
+use layout::{CLOSING_SIZE, SECTOR_STREAM};
 pub use refusal::block_refusal;
+use refusals::Refusal;
 
 // The writer's record: the State prescribed next, the NRZI level, the DSV, the sectors written, whether the closing code is written, the peak, which is the
 // greatest absolute DSV at the end of a Sync Frame so far, and the mark of the last trial: whether there is one, and the DSV that it gave, 0 where there is none.
@@ -27,25 +29,6 @@ pub struct Record {
     pub peak: u64,
     pub marked: bool,
     pub mark: i64,
-}
-
-// What a call answers. Only `Done` changes anything.
-#[derive(Clone, Copy)]
-pub enum Answer {
-    Done,
-    LengthRefused,
-    RunEnded,
-    RunUnfinished,
-    BadRecord,
-    NotTried,
-    OtherDsv,
-}
-
-// The record after a call, and its answer.
-#[derive(Drop)]
-pub struct Step {
-    pub next: Record,
-    pub answer: Answer,
 }
 
 // The record before the first sector of a run.
@@ -66,94 +49,54 @@ pub fn new() -> Record
 
 // A sector of 2,366 bytes is tried: the DSV after it becomes the record's mark. It is laid in a buffer of the call's own; of the one lent only the length counts,
 // so that what is refused here is what the take would refuse.
-pub fn trial(current: Record, bytes: &[u8], out: &[u8]) -> Step
-    ensures { (answer_number result.answer
-        ≡ sector_refusal current (length bytes.now) (length out.now))
-        × (result.next ≡ trial_next current bytes.now (length out.now)) }
+pub fn trial(current: Record, bytes: &[u8], out: &[u8]) -> Result<Record, Refusal>
+    ensures number { answer_number result ≡ sector_refusal current (length bytes.now) (length out.now) }
+    ensures next { record_after current result ≡ trial_next current bytes.now (length out.now) }
 {
     if out.len() != SECTOR_STREAM {
-        return Step {
-            next: current,
-            answer: Answer::LengthRefused,
-        };
+        return Err(Refusal::Length);
     }
     let mut laid = [0u8; SECTOR_STREAM];
-    let written = write::write_sector(current, bytes, &mut laid);
-    let answer = written.answer;
-    let Answer::Done = answer else {
-        return written;
-    };
-    let after = written.next;
-    let next = refusal::marked_with(current, after.dsv);
-    Step { next, answer }
+    let after = write::write_sector(current, bytes, &mut laid)?;
+    Ok(current.marked_with(after.dsv))
 }
 
 // The sector that was tried, laid as 4,836 bytes. It is laid in a buffer of the call's own first: only then is its DSV known, and 13 leaves the one lent.
-pub fn take(current: Record, bytes: &[u8], out: &mut [u8]) -> Step
-    ensures { (answer_number result.answer
-        ≡ take_refusal current bytes.now (length out.old))
-        × ((result.next ≡ take_next current bytes.now (length out.old))
-        × (out.new ≡ take_out current bytes.now out.old)) }
+pub fn take(current: Record, bytes: &[u8], out: &mut [u8]) -> Result<Record, Refusal>
+    ensures number { answer_number result ≡ take_refusal current bytes.now (length out.old) }
+    ensures next { record_after current result ≡ take_next current bytes.now (length out.old) }
+    ensures out_after { out.new ≡ take_out current bytes.now out.old }
 {
-    if out.len() != SECTOR_STREAM {
-        return Step {
-            next: current,
-            answer: Answer::LengthRefused,
-        };
-    }
+    let Some(out) = out.as_mut_array::<SECTOR_STREAM>() else {
+        return Err(Refusal::Length);
+    };
     let mut laid = [0u8; SECTOR_STREAM];
-    let written = write::write_sector(current, bytes, &mut laid);
-    let refusal = written.answer;
-    let Answer::Done = refusal else {
-        return written;
-    };
-    let after = written.next;
-    let answer = refusal::mark_refusal(current, after.dsv);
-    let Answer::Done = answer else {
-        return Step {
-            next: current,
-            answer,
-        };
-    };
-    octets::put(&mut *out, 0, &laid);
-    written
+    let after = write::write_sector(current, bytes, &mut laid)?;
+    refusal::mark_refusal(current, after.dsv)?;
+    *out = laid;
+    Ok(after)
 }
 
 // The sixteen sectors of a block of 37,856 bytes, laid as 77,376.
-pub fn write_sectors(current: Record, block: &[u8], out: &mut [u8]) -> Step
-    ensures { (answer_number result.answer
-        ≡ sectors_refusal current (length block.now) (length out.old))
-        × ((result.next ≡ sectors_next current block.now (length out.old))
-        × (out.new ≡ sectors_out current block.now out.old)) }
+pub fn write_sectors(current: Record, block: &[u8], out: &mut [u8]) -> Result<Record, Refusal>
+    ensures number { answer_number result ≡ sectors_refusal current (length block.now) (length out.old) }
+    ensures next { record_after current result ≡ sectors_next current block.now (length out.old) }
+    ensures out_after { out.new ≡ sectors_out current block.now out.old }
 {
-    let answer = refusal::sectors_refusal(current, block.len(), out.len());
-    let Answer::Done = answer else {
-        return Step {
-            next: current,
-            answer,
-        };
-    };
-    let next = write::write_each(current, block, &mut *out);
-    Step { next, answer }
+    refusal::sectors_refusal(current, block.len(), out.len())?;
+    Ok(write::write_each(current, block, out))
 }
 
 // The closing code after the last block of a run, 4 bytes.
-pub fn close(current: Record, out: &mut [u8]) -> Step
-    ensures { (answer_number result.answer ≡ closing_refusal current (length out.old))
-        × ((result.next ≡ closing_next current (length out.old))
-        × (out.new ≡ closing_out current out.old)) }
+pub fn close(current: Record, out: &mut [u8]) -> Result<Record, Refusal>
+    ensures number { answer_number result ≡ closing_refusal current (length out.old) }
+    ensures next { record_after current result ≡ closing_next current (length out.old) }
+    ensures out_after { out.new ≡ closing_out current out.old }
 {
-    let refusal = refusal::closing_refusal(current, out.len());
-    let Answer::Done = refusal else {
-        return Step {
-            next: current,
-            answer: refusal,
-        };
+    let Some(out) = out.as_mut_array::<CLOSING_SIZE>() else {
+        return Err(Refusal::Length);
     };
-    let running = sector::closing(refusal::running_of(current), &mut *out);
-    let next = refusal::record_of(running, current.peak, current.sectors, true);
-    Step {
-        next,
-        answer: Answer::Done,
-    }
+    current.closes()?;
+    let running = sector::closing(current.running(), out);
+    Ok(Record::of(running, current.peak, current.sectors, true))
 }

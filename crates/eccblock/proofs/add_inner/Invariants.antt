@@ -1,15 +1,8 @@
 -- `eccblock::add_inner` meets its contract: each turn adds the parity of one row. Assumes nothing.
-use mathlib.Core.Path.{◌≡◌}
 use mathlib.Core.List.{List}
-use Prim.Native.Nat.{ℕ, ◌≤◌, ◌-◌}
-use lib.ListN.{length}
-use Rattle.layout.specs.Lengths.{row_count, block_size}
+use Prim.Native.Nat.{ℕ}
 use Rattle.eccblock.specs.Inner.{Rows}
 use Rattle.eccblock.proofs.add_inner.Given as goal
 
 abbrev pub invariant-loop-q : goal.invariant-loop-q
-invariant-loop-q l = (l.q ≤ row_count) × (length l.out ≡ block_size)
-    × ((main : List ℕ) (first info : ℕ) → Rows main first info 0 l.initial.out → Rows main first info l.q l.out)
-
-abbrev pub decreases-loop-q : goal.decreases-loop-q
-decreases-loop-q l = row_count - l.q
+invariant-loop-q l = (main : List ℕ) (first info : ℕ) → Rows main first info 0 l.initial.out → Rows main first info l.q l.out

@@ -1,12 +1,9 @@
 -- `eccblock::store_frame` meets its contract: each turn stores one row. Assumes nothing.
-use Prim.Native.Nat.{◌*◌, ◌≤◌, ◌-◌}
+use Prim.Native.Nat.{◌*◌}
 use Rattle.octets.specs.Inner.{Stored}
-use Rattle.layout.specs.Lengths.{frame_rows, column_count}
+use Rattle.layout.specs.Lengths.{column_count}
 use Rattle.layout.specs.Inner.{frame_place}
 use Rattle.eccblock.proofs.store_frame.Given as goal
 
 abbrev pub invariant-loop-r : goal.invariant-loop-r
-invariant-loop-r l = (l.r ≤ frame_rows) × Stored (frame_place l.k) l.scrambled l.initial.out l.out (column_count * l.r)
-
-abbrev pub decreases-loop-r : goal.decreases-loop-r
-decreases-loop-r l = frame_rows - l.r
+invariant-loop-r l = Stored (frame_place l.k) l.scrambled l.initial.out l.out (column_count * l.r)

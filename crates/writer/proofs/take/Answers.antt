@@ -1,66 +1,79 @@
 -- `writer::take` meets its contract: another length is refused, the single write refuses, the mark refuses, or the sector is taken.
 -- Assumes nothing.
-use mathlib.Core.Path.{◌≡◌, sym, ap, ◌∙◌}
+use mathlib.Core.Path.{◌≡◌, refl, sym, ap, ◌∙◌}
 use native.Mathlib.Omega.{arith}
 use lib.ListN.{length}
 use mir.Syntax.{w64}
 use mir.Val.{to_z, of_z}
 use borrow.Author.Rules.{rules}
-use Rattle.octets.proofs.Copies.{sets_all}
 use Rattle.writer.specs.Answers.{sector_refusal, mark_refusal}
 use Rattle.writer.specs.declared.Record.{Record}
+use Rattle.writer.proofs.Answered.{refused, kept, numbered}
 use Rattle.writer.proofs.Calls.{sector_next_lem}
-use Rattle.writer.proofs.Numbers.{done-number, refused_number}
-use Rattle.writer.proofs.Takes.{sector_length, sector_left, sector_after_lem, take_stays, mark_stays, take_done}
+use Rattle.writer.proofs.Sound.{to_length}
+use Rattle.writer.proofs.Takes.{sector_after_lem, take_stays, mark_stays, take_done}
 use Rattle.writer.proofs.take.Goals as goal
 
-pub returns-then-out-ne-SECTOR_STREAM : goal.returns-then-out-ne-SECTOR_STREAM
-returns-then-out-ne-SECTOR_STREAM c =
-    let a = c.args in
-    let w = a.current in
-    take_stays w a.bytes.now a.out.now 1 (sector_length w (length a.bytes.now) (length a.out.now) c.if-out-ne-SECTOR_STREAM.true) (λ z. omega arith)
+pub returns-in_default-clause-number : goal.returns-in_default-clause-number
+returns-in_default-clause-number c =
+    let number = to_length c.args.current _ _ c.in_default.ensures.cases in
+    (take_stays c.args.current c.args.bytes.now c.args.out.now 1 number (λ z. omega arith)).0
 
-pub returns-in_default : goal.returns-in_default
-returns-in_default c =
-    let a = c.args in
-    let w = a.current in
-    let bs = a.bytes.now in
-    let e = c.write_sector-written.ensures in
-    let refused = refused_number c.write_sector-written.result.answer c.in_default.not-Done in
-    let number = e.0 ∙ ap (sector_refusal w (length bs)) (sym c.if-out-ne-SECTOR_STREAM.false) in
-    let left = take_stays w bs a.out.now _ number refused in
-    (left.0, (e.1.0 ∙ sector_left w bs _ (λ z. refused (e.0 ∙ z)) ∙ left.1.0, left.1.1))
+pub returns-in_default-clause-next : goal.returns-in_default-clause-next
+returns-in_default-clause-next c =
+    let number = to_length c.args.current _ _ c.in_default.ensures.cases in
+    (take_stays c.args.current c.args.bytes.now c.args.out.now 1 number (λ z. omega arith)).1.0
 
-pub returns-in_default-answer : goal.returns-in_default-answer
-returns-in_default-answer c =
+pub returns-in_default-clause-out_after : goal.returns-in_default-clause-out_after
+returns-in_default-clause-out_after c =
+    let number = to_length c.args.current _ _ c.in_default.ensures.cases in
+    (take_stays c.args.current c.args.bytes.now c.args.out.now 1 number (λ z. omega arith)).1.1
+
+pub returns-in_err-after-clause-number : goal.returns-in_err-after-clause-number
+returns-in_err-after-clause-number c =
     let a = c.args in
-    let w = a.current in
-    let bs = a.bytes.now in
-    let e = c.write_sector-written.ensures in
-    let next = c.write_sector-written.result.next in
-    let done = done-number c.write_sector-written.result.answer c.in-Done.is in
-    let free = ap (sector_refusal w (length bs)) c.if-out-ne-SECTOR_STREAM.false ∙ sym e.0 ∙ done in
-    let after = e.1.0 ∙ sector_after_lem w bs _ (sym e.0 ∙ done) in
-    let same : to_z w64 (of_z w64 next.dsv) ≡ next.dsv = search rules in
-    let by-mark = c.mark_refusal-answer.ensures ∙ ap (mark_refusal w) (same ∙ ap (λ (v : Record). v.dsv) after) in
-    mark_stays w bs a.out.now free _ by-mark (refused_number c.mark_refusal-answer.result c.in_default-answer.not-Done)
+    let free = c.in_err-after.ensures.number ∙ ap (sector_refusal a.current (length a.bytes.now)) (sym c.in-Some.ensures.cases.long) in
+    numbered _ _ c.from_residual.ensures.1 ∙ (take_stays a.current a.bytes.now a.out.now _ free (refused _)).0
+
+pub returns-in_err-after-clause-next : goal.returns-in_err-after-clause-next
+returns-in_err-after-clause-next c =
+    let a = c.args in
+    let free = c.in_err-after.ensures.number ∙ ap (sector_refusal a.current (length a.bytes.now)) (sym c.in-Some.ensures.cases.long) in
+    kept a.current _ c.from_residual.ensures.0 ∙ (take_stays a.current a.bytes.now a.out.now _ free (refused _)).1.0
+
+pub returns-in_err-after-clause-out_after : goal.returns-in_err-after-clause-out_after
+returns-in_err-after-clause-out_after c =
+    let a = c.args in
+    let free = c.in_err-after.ensures.number ∙ ap (sector_refusal a.current (length a.bytes.now)) (sym c.in-Some.ensures.cases.long) in
+    c.in-Some.ensures.cases.same ∙ (take_stays a.current a.bytes.now a.out.now _ free (refused _)).1.1
+
+pub returns-in_err-mark_refusal : goal.returns-in_err-mark_refusal
+returns-in_err-mark_refusal c =
+    let a = c.args in
+    let e = c.in_ok-after.ensures in
+    let free = ap (sector_refusal a.current (length a.bytes.now)) c.in-Some.ensures.cases.long ∙ sym e.number in
+    let after = e.next ∙ sector_after_lem a.current a.bytes.now _ (sym e.number) in
+    let same : to_z w64 (of_z w64 c.in_ok-after.after.dsv) ≡ c.in_ok-after.after.dsv = search rules in
+    let by-mark = c.in_err-mark_refusal.ensures ∙ ap (mark_refusal a.current) (same ∙ ap (λ (v : Record). v.dsv) after) in
+    let left = mark_stays a.current a.bytes.now a.out.now free _ by-mark (refused _) in
+    record {
+      number = numbered _ _ c.from_residual-in_err-mark_refusal.ensures.1 ∙ left.0;
+      next = kept a.current _ c.from_residual-in_err-mark_refusal.ensures.0 ∙ left.1.0;
+      out_after = c.in-Some.ensures.cases.same ∙ left.1.1;
+    }
 
 pub returns : goal.returns
 returns c =
     let a = c.args in
-    let w = a.current in
-    let bs = a.bytes.now in
-    let out = a.out.now in
-    let e = c.write_sector-written.ensures in
-    let next = c.write_sector-written.result.next in
-    let done = done-number c.write_sector-written.result.answer c.in-Done.is in
-    let free = ap (sector_refusal w (length bs)) c.if-out-ne-SECTOR_STREAM.false ∙ sym e.0 ∙ done in
-    let after = e.1.0 ∙ sector_after_lem w bs _ (sym e.0 ∙ done) in
-    let same : to_z w64 (of_z w64 next.dsv) ≡ next.dsv = search rules in
-    let by-mark = c.mark_refusal-answer.ensures ∙ ap (mark_refusal w) (same ∙ ap (λ (v : Record). v.dsv) after) in
-    let is-marked = done-number c.mark_refusal-answer.result c.in-Done-answer.is in
-    let taken = take_done w bs out free _ by-mark is-marked in
-    let laid = c.write_sector-written.new.out in
-    let size = c.write_sector-written.auto.out ∙ sym c.if-out-ne-SECTOR_STREAM.false in
-    let stream = c.put.ensures ∙ sets_all laid out size ∙ e.1.1 ∙ sym (sector_next_lem w bs _ (sym e.0 ∙ done)).1 in
-    (done ∙ sym is-marked ∙ taken.0, (after ∙ taken.1.0, stream ∙ taken.1.1))
+    let e = c.in_ok-after.ensures in
+    let long = c.in-Some.ensures.cases.long in
+    let free = ap (sector_refusal a.current (length a.bytes.now)) long ∙ sym e.number in
+    let after = e.next ∙ sector_after_lem a.current a.bytes.now _ (sym e.number) in
+    let same : to_z w64 (of_z w64 c.in_ok-after.after.dsv) ≡ c.in_ok-after.after.dsv = search rules in
+    let by-mark = c.in_ok-mark_refusal.ensures ∙ ap (mark_refusal a.current) (same ∙ ap (λ (v : Record). v.dsv) after) in
+    let taken = take_done a.current a.bytes.now a.out.now free _ by-mark refl in
+    record {
+      number = taken.0;
+      next = after ∙ taken.1.0;
+      out_after = e.out_after ∙ sym (sector_next_lem a.current a.bytes.now _ (sym e.number)).1 ∙ taken.1.1;
+    }

@@ -9,37 +9,31 @@ use borrow.Author.Rules.{rules}
 use Rattle.writer.specs.Answers.{sector_refusal}
 use Rattle.writer.specs.Records.{marked_with}
 use Rattle.writer.specs.declared.Record.{Record}
-use Rattle.writer.proofs.Numbers.{done-number, refused_number}
-use Rattle.writer.proofs.Takes.{sector_length, sector_left, sector_after_lem, trial_stays, trial_marks}
+use Rattle.writer.proofs.Answered.{refused, kept}
+use Rattle.writer.proofs.Sound.{to_length}
+use Rattle.writer.proofs.Takes.{sector_after_lem, trial_stays, trial_marks}
 use Rattle.writer.proofs.trial.Goals as goal
 
-pub returns-then-out-ne-SECTOR_STREAM : goal.returns-then-out-ne-SECTOR_STREAM
-returns-then-out-ne-SECTOR_STREAM c =
-    let a = c.args in
-    let w = a.current in
-    let number = sector_length w (length a.bytes.now) (length a.out.now) c.if-out-ne-SECTOR_STREAM.true in
-    (number, trial_stays w a.bytes.now a.out.now 1 number (λ z. omega arith))
+pub returns-then-out-ne-SECTOR_STREAM-clause-number : goal.returns-then-out-ne-SECTOR_STREAM-clause-number
+returns-then-out-ne-SECTOR_STREAM-clause-number c = to_length c.args.current _ _ c.if-out-ne-SECTOR_STREAM.true
 
-pub returns-in_default : goal.returns-in_default
-returns-in_default c =
-    let a = c.args in
-    let w = a.current in
-    let bs = a.bytes.now in
-    let e = c.write_sector-written.ensures in
-    let refused = refused_number c.write_sector-written.result.answer c.in_default.not-Done in
-    let number = e.0 ∙ ap (sector_refusal w (length bs)) (sym c.if-out-ne-SECTOR_STREAM.false) in
-    (number, e.1.0 ∙ sector_left w bs _ (λ z. refused (e.0 ∙ z)) ∙ trial_stays w bs a.out.now _ number refused)
+pub returns-then-out-ne-SECTOR_STREAM-clause-next : goal.returns-then-out-ne-SECTOR_STREAM-clause-next
+returns-then-out-ne-SECTOR_STREAM-clause-next c =
+    trial_stays c.args.current c.args.bytes.now c.args.out.now 1 (to_length c.args.current _ _ c.if-out-ne-SECTOR_STREAM.true) (λ z. omega arith)
 
-pub returns : goal.returns
-returns c =
-    let a = c.args in
-    let w = a.current in
-    let bs = a.bytes.now in
-    let e = c.write_sector-written.ensures in
-    let next = c.write_sector-written.result.next in
-    let done = done-number c.write_sector-written.result.answer c.in-Done.is in
-    let number = e.0 ∙ ap (sector_refusal w (length bs)) (sym c.if-out-ne-SECTOR_STREAM.false) in
-    let after = e.1.0 ∙ sector_after_lem w bs _ (sym e.0 ∙ done) in
-    let same : to_z w64 (of_z w64 next.dsv) ≡ next.dsv = search rules in
-    let marks = c.marked_with-next.ensures ∙ ap (marked_with w) (same ∙ ap (λ (v : Record). v.dsv) after) in
-    (number, marks ∙ sym (trial_marks w bs (length a.out.now) (sym number ∙ done)))
+pub returns-in_err-after-clause-next : goal.returns-in_err-after-clause-next
+returns-in_err-after-clause-next c =
+    let w = c.args.current in
+    let bs = c.args.bytes.now in
+    let number = (c.in_err-after.ensures).number ∙ ap (sector_refusal w (length bs)) (sym c.if-out-ne-SECTOR_STREAM.false) in
+    kept w c.from_residual.result c.from_residual.ensures.0 ∙ trial_stays w bs c.args.out.now _ number (refused _)
+
+pub returns-clause-next : goal.returns-clause-next
+returns-clause-next c =
+    let w = c.args.current in
+    let bs = c.args.bytes.now in
+    let e = c.in_ok-after.ensures in
+    let free = e.number ∙ ap (sector_refusal w (length bs)) (sym c.if-out-ne-SECTOR_STREAM.false) in
+    let after = e.next ∙ sector_after_lem w bs _ (sym e.number) in
+    let same : to_z w64 (of_z w64 c.in_ok-after.after.dsv) ≡ c.in_ok-after.after.dsv = search rules in
+    c.marked_with.ensures ∙ ap (marked_with w) (same ∙ ap (λ (v : Record). v.dsv) after) ∙ sym (trial_marks w bs (length c.args.out.now) (sym free))

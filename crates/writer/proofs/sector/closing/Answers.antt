@@ -11,22 +11,14 @@ use Rattle.streams.specs.Streams.{Stream}
 use Rattle.streams.proofs.Closing.{coded, closing_by_choice}
 use Rattle.writer.proofs.sector.closing.Goals as goal
 
-pub lay_sync-side-requires : goal.lay_sync-side-requires
-lay_sync-side-requires c = record {
-  levels_value = c.level_table-levels.ensures;
-  syncs_value = c.sync_table-syncs.ensures;
-  room = c.requires.room;
-  in_bounds = omega (arith, c.requires.out_len);
-}
-
 pub returns : goal.returns
 returns c =
     let a = c.args in
     let choice = c.closing_choice-choice.result in
-    let part = synced a.start 0 choice a.out.now (omega (arith, c.requires.out_len)) (c.lay_sync-side.ensures.value, c.lay_sync-side.ensures.buffer_after) in
+    let part = synced a.start 0 choice a.out.now (omega arith) (c.sync.ensures.value, c.sync.ensures.buffer_after) in
     let written : coded a.start choice ≡ closing_of a.start =
     ap (coded a.start) c.closing_choice-choice.ensures ∙ sym (closing_by_choice a.start) in
     record {
       running = part.running ∙ ap (λ (m : Stream). m.running) written;
-      laid = sym (take_all closing_size _ (omega (arith, c.requires.out_len))) ∙ part.bytes ∙ ap (λ (m : Stream). packed m.halves) written;
+      laid = sym (take_all closing_size _ (omega arith)) ∙ part.bytes ∙ ap (λ (m : Stream). packed m.halves) written;
     }

@@ -16,6 +16,6 @@ unfolding opened lay
 returns c =
     let start = c.args.start in
     let after : ℕ → Running = λ h. running_after start 1 (h ∷ sync_end ∷ []) in
-    let one = c.sync-primary.ensures ∙ ap after c.sync_code.ensures in
-    let two = c.sync-secondary.ensures ∙ ap after c.sync_code-2.ensures in
+    let one = c.sync-primary.ensures ∙ ap after c.code.ensures in
+    let two = c.sync-secondary.ensures ∙ ap after c.code-2.ensures in
     ap not (c.lower.ensures ∙ ap₂ (λ (p q : Running). leb (magnitude p.dsv) (magnitude q.dsv)) one two)

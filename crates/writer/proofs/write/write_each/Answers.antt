@@ -1,11 +1,12 @@
 -- `writer::write::write_each` meets its contract.
 -- Assumes nothing.
-use mathlib.Core.Path.{◌≡◌, refl, sym, ap, ◌∙◌}
+use mathlib.Core.Path.{◌≡◌, refl, ap, ◌∙◌}
 use mathlib.Core.List.{List}
 use Prim.Native.Nat.{ℕ, ◌+◌, ◌-◌, ◌*◌}
 use lib.ListN.{take, drop}
-use Rattle.layout.specs.Lengths.{sector_count, sector_size, sector_stream}
-use Rattle.writer.proofs.Each.{Written, written_none, written_more, written_length, written_all}
+use Rattle.layout.specs.Lengths.{sector_size, sector_stream}
+use Rattle.writer.proofs.Answered.{unwrapped}
+use Rattle.writer.proofs.Each.{written_none, written_more, written_length}
 use native.Mathlib.Omega.{arith}
 use Rattle.writer.proofs.write.write_each.Goals as goal
 
@@ -23,19 +24,6 @@ loop-k-preserved c =
     let m : from + sector_size - from ≡ sector_size = omega arith in
     let eb : b ≡ take sector_size (drop from bs) = ap (λ (x : ℕ). take x (drop from bs)) m in
     let more =
-    written_more c.args.current bs old c.loop-k.k c.loop-k.w c.loop-k.out (omega arith) c.requires.out_len c.loop-k.invariant.1 c.write_sector-s.new.out b o c.write_sector-s.result.next
-    (at + sector_stream - at) (omega arith) (omega arith) eb refl c.write_sector-s.ensures.1.0 c.write_sector-s.ensures.1.1 c.write_sector-s.auto.out in
+    written_more c.args.current bs old c.loop-k.k c.loop-k.w c.loop-k.out (omega arith) c.requires.out_len c.loop-k.invariant.1 c.write_sector.new.out b o c.unwrap_or-w.result
+    (at + sector_stream - at) (omega arith) (omega arith) eb refl (c.unwrap_or-w.ensures ∙ unwrapped c.loop-k.w c.write_sector.result ∙ c.write_sector.ensures.next) c.write_sector.ensures.out_after c.write_sector.auto.out in
     (omega arith, more, written_length c.args.current bs old (c.loop-k.k + 1) _ _ (omega arith) c.requires.out_len more)
-
-pub shape_of-out : goal.shape_of-out
-shape_of-out c = c.loop-k.invariant.2 ∙ sym c.requires.out_len
-
-pub returns : goal.returns
-returns c =
-    let a = c.args in
-    let e : c.loop-k.k ≡ sector_count = omega arith in
-    let g : Written a.current a.block.now a.out.now sector_count c.loop-k.w c.loop-k.out = rw e at c.loop-k.invariant.1 in
-    record {
-      value = g.next;
-      out_after = written_all a.current a.block.now a.out.now c.loop-k.w c.loop-k.out c.requires.out_len g;
-    }
