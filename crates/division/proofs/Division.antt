@@ -21,7 +21,7 @@ use Rattle.division.specs.Inner.{packed, Packed, empty, beside, register_at, unp
 use Rattle.division.specs.declared.register.Remainder.{Remainder}
 use Rattle.multiples.proofs.Numbers.{number-zeros}
 use Rattle.division.proofs.Step.{tail_length}
-use Rattle.division.proofs.Unpacked.{unpacked-whole}
+use Rattle.division.proofs.Unpacked.{same_numbers, unpacked-whole}
 
 -- ---- registers of zeros
 
@@ -35,11 +35,8 @@ unfolding high low
 packed-zeros p = record {
   size = length-replicate p 0;
   bytes = zeros-bytes p;
-  numbers = ap₂ pair (sym (number-zeros (λ i. get_or (replicate p 0) i 0) (zeros-place p) 0 8)) (sym (number-zeros (λ i. get_or (replicate p 0) i 0) (zeros-place p) 8 8));
+  numbers = same_numbers empty (packed (replicate p 0)) (sym (number-zeros (λ i. get_or (replicate p 0) i 0) (zeros-place p) 0 8)) (sym (number-zeros (λ i. get_or (replicate p 0) i 0) (zeros-place p) 8 8));
 }
-  where
-    pair : ℕ → ℕ → Remainder
-    pair a b = record { high = a; low = b }
 
 -- ---- the parity of a word, whatever the number of roots
 

@@ -1,4 +1,4 @@
-pub mod Step
 pub mod Unpacked
+pub mod Step
 pub mod Division
 pub mod Words

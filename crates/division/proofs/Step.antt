@@ -18,10 +18,11 @@ use Rattle.codes.proofs.Words.{add_words-length}
 use Rattle.codes.proofs.Division.{remainder-bytes}
 use Rattle.codes.proofs.Shift.{shift_at, shift_is, shift_size, map_at}
 use Rattle.multiples.specs.Inner.{top, bytes_as_number, high, low, multiples}
-use Rattle.division.specs.Inner.{Packed}
+use Rattle.division.specs.Inner.{packed, Packed}
 use Rattle.division.specs.declared.register.Remainder.{Remainder}
 use Rattle.multiples.proofs.Numbers.{number_same, number-add, number_lt, first_byte, moved as bytes_moved}
 use Rattle.multiples.proofs.Entries.{multiples-high, multiples-low}
+use Rattle.division.proofs.Unpacked.{same_numbers}
 
 -- past the end too
 map-place : (h : ℕ) (g : List ℕ) (k : ℕ) → get_or (map (mul h) g) k 0 ≡ mul h (get_or g k 0)
@@ -116,7 +117,7 @@ packed_next p b x m r le e small w =
       bytes = shift_bytes g x b w.bytes;
       numbers =
           ap (λ (q : Remainder). moved m b q) w.numbers
-          ∙ ap₂ (λ (h l : ℕ). pair h l)
+          ∙ same_numbers (moved m b (packed x)) (packed (shift_in g x b))
           (ap (λ (u : ℕ). add (high x % top * 256 + low x / top) u)
           (ap (λ (t : List ℕ). get_or t (2 * add b (high x / top)) 0) e ∙ multiples-high p (add b (high x / top)) i) ∙ sym (next_high g x b s w.bytes))
           (ap (λ (u : ℕ). add (low x % top * 256) u)
@@ -124,9 +125,6 @@ packed_next p b x m r le e small w =
           ∙ sym (next_low g x b s w.bytes (omega (arith, w.size))));
     }
   where
-    pair : ℕ → ℕ → Remainder
-    pair h l = record { high = h; low = l }
-
     moved : List ℕ → ℕ → Remainder → Remainder
     moved m b r = record {
       high = add (r.high % top * 256 + r.low / top) (get_or m (2 * add b (r.high / top)) 0);

@@ -19,6 +19,12 @@ use Rattle.division.specs.Inner.{packed, Packed, number_byte, unpacked}
 use Rattle.division.specs.declared.register.Remainder.{Remainder}
 use Rattle.multiples.proofs.Numbers.{number_lt, number_same}
 
+pub same_numbers : (r s : Remainder) → r.high ≡ s.high → r.low ≡ s.low → r ≡ s
+same_numbers r s h l = ap₂ pair h l
+  where
+    pair : ℕ → ℕ → Remainder
+    pair a b = record { high = a; low = b }
+
 number_split : (f : ℕ → ℕ) (k c b : ℕ) → bytes_as_number f k (c + b) ≡ bytes_as_number f k c * 256 ^ b + bytes_as_number f (k + c) b
 unfolding bytes_as_number
 number_split f k c zero = let e : c + 0 ≡ c = omega arith in rw e (omega arith)
@@ -101,16 +107,14 @@ packed-unpacked r hh hl =
     record {
       size = unpacked-length r;
       bytes = append-bytes (tabulate (number_byte h) 8) (tabulate (number_byte l) 8) (tabulate-bytes (number_byte h) 0 8 (byte_small h)) (tabulate-bytes (number_byte l) 0 8 (byte_small l));
-      numbers = sym
-          (ap₂ (λ (a b : ℕ). pair a b)
+      numbers = same_numbers r (packed (unpacked r))
+          (sym
           (number_same (λ i. get_or (unpacked r) i 0) (number_byte h) 0 0 8
           (λ i m. get_or-append (tabulate (number_byte h) 8) (tabulate (number_byte l) 8) 0 (0 + i) (omega arith) ∙ get_d_tabulate (number_byte h) 8 (0 + i) (omega arith))
-          ∙ whole h hh)
+          ∙ whole h hh))
+          (sym
           (number_same (λ i. get_or (unpacked r) i 0) (number_byte l) 8 0 8
           (λ i m. ap (λ (k : ℕ). get_or (unpacked r) (k + i) 0) (sym n) ∙ get_or-append-add (tabulate (number_byte h) 8) (tabulate (number_byte l) 8) i 0
           ∙ get_d_tabulate (number_byte l) 8 i m ∙ ap (number_byte l) (omega arith))
           ∙ whole l hl));
     }
-  where
-    pair : ℕ → ℕ → Remainder
-    pair a b = record { high = a; low = b }

@@ -22,6 +22,7 @@ use Rattle.division.specs.Inner.{packed, remainder_of}
 use Rattle.division.specs.declared.register.Remainder.{Remainder}
 use Rattle.multiples.proofs.Numbers.{number_same, number-add}
 use Rattle.division.proofs.Division.{parity-size, parity_small}
+use Rattle.division.proofs.Unpacked.{same_numbers}
 
 -- ---- the sum of two registers
 
@@ -109,10 +110,7 @@ module _ (p : ℕ) (w : List ℕ) (hw : Bytes w) (le : p ≤ length w) where
       → r.low ≡ add (low (parity p (take (length w - p) w))) (low (drop (length w - p) w)) → r ≡ packed (remainder_of p w)
   unfolding remainder_of d q
   left_packed r eh el =
-      ap₂ pair (eh ∙ sym (sum-high (parity p d) q same (parity_small p d) q_bytes)) (el ∙ sym (sum_low (parity p d) q same (parity_small p d) q_bytes))
-    where
-      pair : ℕ → ℕ → Remainder
-      pair a b = record { high = a; low = b }
+      same_numbers r (packed (remainder_of p w)) (eh ∙ sym (sum-high (parity p d) q same (parity_small p d) q_bytes)) (el ∙ sym (sum_low (parity p d) q same (parity_small p d) q_bytes))
 
   module _ (c : Code p) where
     -- every syndrome of the word is that of the remainder

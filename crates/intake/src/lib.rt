@@ -17,11 +17,10 @@ pub fn read_full<R: Read>(reader: &mut R, buf: &mut [u8]) -> io::Result<usize>
 {
     let mut done = 0;
     while done < buf.len() {
-        let n = reader.read(&mut buf[done..])?;
-        if n == 0 {
-            break;
+        match reader.read(&mut buf[done..])? {
+            0 => break,
+            n => done += n,
         }
-        done += n;
     }
     Ok(done)
 }
@@ -41,18 +40,14 @@ mod tests {
 
     impl Read for Pairs {
         fn read(&mut self, buf: &mut [u8]) -> io::Result<usize> {
-            if self.left == 0 {
-                if self.fails {
-                    return Err(io::Error::from(io::ErrorKind::Unsupported));
-                }
-                return Ok(0);
+            if self.left == 0 && self.fails {
+                return Err(io::Error::from(io::ErrorKind::Unsupported));
             }
-            if buf.len() < 2 {
+            if self.left == 0 || buf.len() < 2 {
                 return Ok(0);
             }
             self.left -= 1;
-            buf[0] = b'a';
-            buf[1] = b'b';
+            buf[..2].copy_from_slice(b"ab");
             Ok(2)
         }
     }
@@ -62,26 +57,22 @@ mod tests {
         let mut short: &[u8] = b"abc";
         let mut buf = [0u8; 5];
         assert_eq!(rt; read_full(&mut short, &mut buf)?, 3);
-        assert_eq!(rt; buf.as_slice(), b"abc\0\0".as_slice());
+        assert_eq!(rt; buf, *b"abc\0\0");
         let mut long: &[u8] = b"abcdefg";
         assert_eq!(rt; read_full(&mut long, &mut buf)?, 5);
         assert_eq!(rt; long, b"fg".as_slice());
-        let mut pieces = Pairs {
-            left: 2,
-            fails: false,
-        };
+        let fails = false;
+        let mut pieces = Pairs { left: 2, fails };
         let mut six = [0u8; 6];
         assert_eq!(rt; read_full(&mut pieces, &mut six)?, 4);
-        assert_eq!(rt; six.as_slice(), b"abab\0\0".as_slice());
+        assert_eq!(rt; six, *b"abab\0\0");
         Ok(())
     }
 
     #[test]
     fn fails_where_a_read_fails(rt: HostRuntime) {
-        let mut pieces = Pairs {
-            left: 2,
-            fails: true,
-        };
+        let fails = true;
+        let mut pieces = Pairs { left: 2, fails };
         let mut six = [0u8; 6];
         assert!(rt; read_full(&mut pieces, &mut six).is_err());
     }

@@ -13,12 +13,12 @@ use Rattle.layout.specs.Rows.{frame_of}
 use Rattle.codes.proofs.Product.{product_distance}
 use Rattle.dataframe.specs.Checks.{info_of, number_of, main_of_block}
 use Rattle.eccblock.specs.Run.{BlockInput, made_block}
-use Rattle.eccblock.specs.declared.Previous.{Previous}
+use Rattle.std.specs.Prelude.{Option}
 use Rattle.eccblock.proofs.Laws.{block_length, block_frame, block_main, block_product, frame_number, frame_info}
 use Rattle.reach.proofs.Rows.{AcceptedInput, made_row, block_distance}
 
 -- an input is read back from its block: the first number and the Sector Information from frame 0, the main data from all frames
-module _ {previous : Previous} (a : BlockInput) (ok : AcceptedInput previous a) where
+module _ {previous : Option ℕ} (a : BlockInput) (ok : AcceptedInput previous a) where
   first_of_lem : number_of (frame_of (made_block a) 0) ≡ a.first
   first_of_lem =
       ap number_of (block_frame a.main a.first a.info ok 0 (omega arith)) ∙ frame_number a.main a.first a.info ok 0 (omega arith) ∙ omega arith
@@ -32,7 +32,7 @@ module _ {previous : Previous} (a : BlockInput) (ok : AcceptedInput previous a) 
 abbrev input_of : List ℕ → ℕ → ℕ → BlockInput
 input_of main first info = record { main = main; first = first; info = info }
 
-module _ {previous before : Previous} (a b : BlockInput) (ok : AcceptedInput previous a) (also : AcceptedInput before b) where
+module _ {previous before : Option ℕ} (a b : BlockInput) (ok : AcceptedInput previous a) (also : AcceptedInput before b) where
   -- equal blocks are made of equal inputs
   pub block_injective : made_block a ≡ made_block b → a ≡ b
   block_injective e =

@@ -24,7 +24,7 @@ use Rattle.scrambling.specs.Scrambling.{preset_of, scrambling_byte}
 use Rattle.eccblock.specs.Block.{main_part, frame, data_byte, column, code_column, row, code_row, block}
 use Rattle.eccblock.specs.Encode.{Accepted}
 use Rattle.eccblock.specs.Run.{BlockInput}
-use Rattle.eccblock.specs.declared.Previous.{Previous}
+use Rattle.std.specs.Prelude.{Option}
 use Rattle.eccblock.proofs.Cells.{code_column_data, code_row_length, code_row_data}
 use Rattle.eccblock.proofs.Laws.{part_byte, part_length, frame_by_part, frame_head, frame_data}
 use Rattle.eccblock.proofs.Refusals.{accepted_facts}
@@ -44,7 +44,7 @@ edc_row p = frame_rows * (p / frame_main_size) + 11
 abbrev pub edc_column : ℕ
 edc_column = 168
 
-module _ {previous before : Previous} (main other : List ℕ) (first info : ℕ) (ok : Accepted previous main first info) (also : Accepted before other first info) (p : ℕ)
+module _ {previous before : Option ℕ} (main other : List ℕ) (first info : ℕ) (ok : Accepted previous main first info) (also : Accepted before other first info) (p : ℕ)
     (alike : (i : ℕ) → i ≢ p → get_or main i 0 ≡ get_or other i 0) where
   -- ---- frames
 
@@ -183,7 +183,7 @@ module _ {previous before : Previous} (main other : List ℕ) (first info : ℕ)
       omega (arith, count_at (byte_row p) 0 n, count_at (edc_row p) 0 n, count_after data_rows d)
 
 pub one-byte_reaches :
-    {previous before : Previous} (main other : List ℕ) (first info : ℕ) → Accepted previous main first info → Accepted before other first info
+    {previous before : Option ℕ} (main other : List ℕ) (first info : ℕ) → Accepted previous main first info → Accepted before other first info
     → distance main other ≡ 1 → distance (block main first info) (block other first info) ≤ 265
 one-byte_reaches main other first info ok also one =
     let apart = one_apart main other ((accepted_facts main first info ok).whole ∙ sym (accepted_facts other first info also).whole) one in

@@ -17,15 +17,15 @@ use Rattle.lists.specs.Count.{distance}
 use Rattle.eccblock.specs.Block.{block}
 use Rattle.eccblock.specs.Encode.{Accepted}
 use Rattle.eccblock.specs.Run.{BlockInput, made_block}
-use Rattle.eccblock.specs.declared.Previous.{Previous}
+use Rattle.std.specs.Prelude.{Option}
 use Rattle.reach.proofs.Apart.{blocks_apart}
 use Rattle.reach.proofs.OneByte.{one-byte_reaches}
 
 pub record Reach : Type 0 where
   -- whatever block came before each of the two
-  pub one_byte : {previous before : Previous} (main other : List ℕ) (first info : ℕ) → Accepted previous main first info → Accepted before other first info
+  pub one_byte : {previous before : Option ℕ} (main other : List ℕ) (first info : ℕ) → Accepted previous main first info → Accepted before other first info
       → distance main other ≡ 1 → distance (block main first info) (block other first info) ≤ 265
-  pub apart : {previous before : Previous} (a b : BlockInput) → Accepted previous a.main a.first a.info → Accepted before b.main b.first b.info
+  pub apart : {previous before : Option ℕ} (a b : BlockInput) → Accepted previous a.main a.first a.info → Accepted before b.main b.first b.info
       → a ≢ b → 187 ≤ distance (made_block a) (made_block b)
 
 pub reach : Reach

@@ -13,7 +13,7 @@ use Rattle.layout.proofs.Order.{recording_lt, original_recording, sum_recording}
 use Rattle.eccblock.specs.Block.{code_row}
 use Rattle.eccblock.specs.Encode.{Accepted}
 use Rattle.eccblock.specs.Run.{BlockInput, made_block}
-use Rattle.eccblock.specs.declared.Previous.{Previous}
+use Rattle.std.specs.Prelude.{Option}
 use Rattle.eccblock.proofs.Laws.{block_length, block_row}
 
 -- row i of an input's block, in the order before the rows were moved
@@ -21,15 +21,15 @@ abbrev pub made_row : BlockInput → ℕ → List ℕ
 made_row a i = code_row a.main a.first a.info i
 
 -- an input that the maker accepts
-abbrev pub AcceptedInput : Previous → BlockInput → Type 0
+abbrev pub AcceptedInput : Option ℕ → BlockInput → Type 0
 AcceptedInput previous a = Accepted previous a.main a.first a.info
 
-module _ {previous : Previous} (a : BlockInput) (ok : AcceptedInput previous a) where
+module _ {previous : Option ℕ} (a : BlockInput) (ok : AcceptedInput previous a) where
   made_row_lem : (i : ℕ) → i < row_count → row_of (made_block a) (recording_row i) ≡ made_row a i
   made_row_lem i h = block_row a.main a.first a.info ok (recording_row i) (recording_lt i h) ∙ ap (made_row a) (original_recording i h)
 
 pub block_distance :
-    {previous before : Previous} (a b : BlockInput) → AcceptedInput previous a → AcceptedInput before b
+    {previous before : Option ℕ} (a b : BlockInput) → AcceptedInput previous a → AcceptedInput before b
     → distance (made_block a) (made_block b) ≡ sum_from (λ i. distance (made_row a i) (made_row b i)) 0 row_count
 block_distance a b ok also =
     let rows : ℕ → ℕ = λ q. distance (row_of (made_block a) q) (row_of (made_block b) q) in

@@ -1,6 +1,6 @@
 -- The syndromes of a received word, from what the generator leaves of it. For any number of roots of which the generator is known to be right.
 -- Assumes nothing.
-use mathlib.Core.Path.{◌≡◌, sym, ap, ap₂, ◌∙◌}
+use mathlib.Core.Path.{◌≡◌, sym, ap, ◌∙◌}
 use mathlib.Core.Bool.{Bool, true, ◌&&◌}
 use mathlib.Core.List.{List}
 use Prim.Native.Nat.{ℕ, ◌+◌, ◌≤◌}
@@ -18,7 +18,7 @@ use Rattle.codes.proofs.Division.{Code, zeros-value_at}
 use Rattle.division.specs.Inner.{remainder_of, packed, unpacked, empty}
 use Rattle.division.specs.declared.register.Remainder.{Remainder}
 use Rattle.division.proofs.Division.{zeros-place, packed-zeros}
-use Rattle.division.proofs.Unpacked.{unpacked-register}
+use Rattle.division.proofs.Unpacked.{same_numbers, unpacked-register}
 use Rattle.division.proofs.Words.{left-length, left-bytes, left-syndrome}
 
 -- nothing is left: the syndromes are zeros
@@ -27,14 +27,11 @@ unfolding syndrome value_at
 syndromes_none p r few b eb t =
     let both = truth_of (eqb r.high 0 && eqb r.low 0) (sym eb ∙ t) in
     let zeros : r ≡ empty =
-    ap₂ (λ (x y : ℕ). pair x y) (eqb→eq r.high 0 (and_left (eqb r.high 0) (eqb r.low 0) both)) (eqb→eq r.low 0 (and_right (eqb r.high 0) (eqb r.low 0) both)) in
+    same_numbers r empty (eqb→eq r.high 0 (and_left (eqb r.high 0) (eqb r.low 0) both)) (eqb→eq r.low 0 (and_right (eqb r.high 0) (eqb r.low 0) both)) in
     let e : take p (unpacked r) ≡ replicate p 0 =
     ap (λ (x : Remainder). take p (unpacked x)) (zeros ∙ (packed-zeros p).numbers) ∙ unpacked-register p (replicate p 0) (zeros-bytes p) (length-replicate p 0) few in
     is-tabulate (syndrome (take p (unpacked r))) (replicate p 0) p (length-replicate p 0)
     (λ i m. zeros-place p i ∙ sym (ap (λ (w : List ℕ). value_at w (pow 2 i)) e ∙ zeros-value_at (pow 2 i) p))
-  where
-    pair : ℕ → ℕ → Remainder
-    pair h l = record { high = h; low = l }
 
 -- r is what is left of w: its syndromes are those of w
 pub syndromes_left : (p : ℕ) → Code p → p ≤ 16 → (w : List ℕ) → Bytes w → p ≤ length w → (r : Remainder) → r ≡ packed (remainder_of p w)
