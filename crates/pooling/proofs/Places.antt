@@ -5,7 +5,7 @@ use mathlib.Core.Bool.{Bool, true, false, not, cond}
 use Prim.Native.Nat.{ℕ}
 use lib.Dec.{eqb}
 use mir.Val.{bool_byte}
-use Rattle.std.specs.Prelude.{Option, None, Some, is_some}
+use Rattle.std.specs.Prelude.{None, Some, is_some}
 use Rattle.std.specs.Option.{unwrap_or}
 use Rattle.lists.specs.Count.{bit}
 use Rattle.pooling.specs.Pool.{MarkedBytes, byte_at, marked_at, pooled_byte, pooled_mark}

@@ -1,11 +1,9 @@
 -- `pool` meets its contract, case by case. Assumes nothing.
-use mathlib.Core.Path.{◌≡◌, refl, sym, ap, ap₂, ◌∙◌}
-use mathlib.Core.Bool.{Bool, true, false, ◌&&◌}
-use mathlib.Core.List.{List}
-use Prim.Native.Nat.{ℕ}
+use mathlib.Core.Path.{◌≡◌, sym, ap, ap₂, ◌∙◌}
+use mathlib.Core.Bool.{◌&&◌}
 use Rattle.repairer.specs.Answer.{marks_fit}
 use Rattle.pooling.specs.Pool.{with_marks, pooled}
-use Rattle.pooling.proofs.Answers.{done, first_fails, second_tells, meets, length_refused, bytes_unfit, erasures_unfit, second_unfit, marks_unfit, mark_refused, pooled_both}
+use Rattle.pooling.proofs.Answers.{first_fails, second_tells, length_refused, bytes_unfit, erasures_unfit, second_unfit, marks_unfit, mark_refused, pooled_both}
 use Rattle.pooling.proofs.pool.Goals as goal
 use Rattle.pooling.proofs.pool.Goals.{then-marks_fit, else-marks_fit}
 
