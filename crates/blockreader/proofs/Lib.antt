@@ -1,3 +1,2 @@
 pub mod SectorLoop
 pub mod Numbers
-pub mod Answers

@@ -4,9 +4,8 @@ use mathlib.Core.Path.{◌≡◌, sym, ap, ◌∙◌, subst}
 use mathlib.Core.Bool.{Bool, true, cond}
 use mathlib.Core.List.{List, ◌++◌}
 use mathlib.Core.Logic.{dite}
-use Prim.Native.Nat.{ℕ, suc, ◌+◌, ◌-◌, ◌*◌, ◌%◌, ◌<◌, ◌≤◌}
+use Prim.Native.Nat.{ℕ, suc, ◌+◌, ◌-◌, ◌*◌, ◌<◌, ◌≤◌}
 use native.Mathlib.Decide.{ℕ_discrete}
-use native.Mathlib.Nat.{mod-eq_of_lt}
 use native.Mathlib.Numerals.{add-one}
 use native.Mathlib.Omega.{arith}
 use lib.ListN.{length, get_or, take, drop, length-append, length-drop, get_or-append}
@@ -17,13 +16,13 @@ use Rattle.lists.proofs.Fill.{Upto, upto_all, length-tabulate, get_d_tabulate}
 use Rattle.channel.specs.Block.{read_at, read_sector, read_block, unknown_at, erasures_of_sector, erasures_of_block}
 use Rattle.layout.specs.Sectors.{sector_part}
 use Rattle.channel.proofs.Sectors.{part_read, part_unknown, read_block_lem, erasures_block}
-use Rattle.reader.specs.Sector.{lost_sync, unknown_tally, sync_tally, sector_fits, sector_answer, sector_after, erasures_after}
-use Rattle.reader.specs.declared.SectorRead.{SectorRead}
+use Rattle.reader.specs.Sector.{lost_sync, unknown_tally, sync_tally, sector_tally, sector_fits, sector_answer, sector_after, erasures_after}
+use Rattle.refusals.specs.declared.Refusal.{Refusal}
+use Rattle.reader.specs.declared.SectorTally.{SectorTally}
+use Rattle.std.specs.Prelude.{Result, Ok}
 use Rattle.reader.proofs.Calls.{part_fits, part_answer≡tallies}
-use Rattle.layout.specs.Lengths.{block_size, sector_size, stream_size}
+use Rattle.layout.specs.Lengths.{block_size, sector_size, sector_read, sector_stream, stream_size}
 use Rattle.blockreader.specs.BlockReader.{sector_sum}
-use Rattle.blockreader.specs.Inner.{add_sector}
-use Rattle.blockreader.specs.declared.Sums.{Sums}
 
 -- a part of a buffer that becomes f's, right after what is f's already
 pub upto_part : (f : ℕ → ℕ) (old xs new : List ℕ) (a n : ℕ) → a + n ≤ length xs → length new ≡ n → ((i : ℕ) → i < n → get_or new i 0 ≡ f (a + i))
@@ -65,8 +64,16 @@ sync-le xs = count-le (lost_sync xs) 0 26
 abbrev pub mark_at : List ℕ → ℕ → ℕ
 mark_at xs i = bit (unknown_at xs i)
 
-small : (u n : ℕ) → u ≤ n → n < 65536 → u % 65536 ≡ u
-small u n l h = mod-eq_of_lt (omega arith)
+-- the parts that are lent for sector k: of the stream, and of a buffer of a block
+pub part_is : (xs : List ℕ) (k : ℕ) → take (sector_stream * k + sector_read - sector_stream * k) (drop (sector_stream * k) xs) ≡ sector_part xs k
+part_is xs k =
+    let e : sector_stream * k + sector_read - sector_stream * k ≡ sector_read = omega arith in
+    ap (λ (n : ℕ). take n (drop (sector_stream * k) xs)) e
+
+pub part_sized : (ys : List ℕ) (k : ℕ) → k < 16 → length ys ≡ block_size → length (take (sector_size * k + sector_size - sector_size * k) (drop (sector_size * k) ys)) ≡ sector_size
+part_sized ys k hk l =
+    let e : sector_size * k + sector_size - sector_size * k ≡ sector_size = omega arith in
+    ap (λ (n : ℕ). length (take n (drop (sector_size * k) ys))) e ∙ length-take-le sector_size (drop (sector_size * k) ys) (rw length-drop (omega (arith, l)))
 
 -- sector k of a block's stream, as its part is lent
 module _ (xs part : List ℕ) (k : ℕ) (hk : k < 16) (whole : length xs ≡ stream_size) (e : part ≡ sector_part xs k) where
@@ -95,14 +102,13 @@ module _ (xs part : List ℕ) (k : ℕ) (hk : k < 16) (whole : length xs ≡ str
   unfolding erasures_after
   erasures-length n old hn hm = ap (λ (t : Bool). length (cond t (erasures_of_sector part) old)) (fits n (length old) hn hm) ∙ length-tabulate (mark_at part) sector_size
 
-  -- the sums with it
-  pub sums_next : (s t : Sums) (n m : ℕ) (r : SectorRead) → n ≡ sector_size → m ≡ sector_size → r ≡ sector_answer part n m → t ≡ add_sector s r
-      → (t.unknown ≡ s.unknown + unknown_tally (sector_part xs k)) × (t.sync ≡ s.sync + sync_tally (sector_part xs k))
-  sums_next s t n m r hn hm q a =
-      let z = a ∙ ap (add_sector s) (q ∙ ap (λ (x : List ℕ). sector_answer x n m) e ∙ part_answer≡tallies xs whole k n m hk hn hm) in (
-        ap (λ (x : Sums). x.unknown) z ∙ ap (λ (x : ℕ). s.unknown + x) (small (unknown_tally (sector_part xs k)) sector_size (unknown_le (sector_part xs k)) (omega arith)),
-        ap (λ (x : Sums). x.sync) z ∙ ap (λ (x : ℕ). s.sync + x) (small (sync_tally (sector_part xs k)) 26 (sync-le (sector_part xs k)) (omega arith)),
-      )
+  -- it is not refused: the answer has its two tallies
+  pub sector_tallies : (n m : ℕ) (r : Result SectorTally Refusal) → n ≡ sector_size → m ≡ sector_size → r ≡ sector_answer part n m → r ≡ Ok (sector_tally (sector_part xs k))
+  sector_tallies n m r hn hm q = q ∙ ap (λ (x : List ℕ). sector_answer x n m) e ∙ part_answer≡tallies xs whole k n m hk hn hm
+
+  pub tally_is : (n m : ℕ) (r : Result SectorTally Refusal) (t : SectorTally) → n ≡ sector_size → m ≡ sector_size → r ≡ sector_answer part n m → r ≡ Ok t
+      → t ≡ sector_tally (sector_part xs k)
+  tally_is n m r t hn hm q o = let z = sector_tallies n m r hn hm q in cc
 
 pub sum_next : (f : List ℕ → ℕ) (xs : List ℕ) (k : ℕ) → k < 16 → sector_sum f xs k (16 - k) ≡ f (sector_part xs k) + sector_sum f xs (k + 1) (16 - (k + 1))
 unfolding sector_sum

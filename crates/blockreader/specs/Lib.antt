@@ -1,2 +1,1 @@
 pub mod BlockReader
-pub mod Inner

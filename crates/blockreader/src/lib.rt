@@ -2,133 +2,111 @@
 // marks (document 02, request 2).
 #![tactic(auto)]
 
-ghost use Rattle.std.specs.Prelude.{◌≡◌, ◌+◌, ◌<◌, length};
+ghost use Rattle.std.specs.Prelude.{◌≡◌, length};
 ghost use Rattle.channel.specs.Block.{read_block, erasures_of_block};
 ghost use Rattle.reader.specs.Sector.{unknown_tally, sync_tally};
-ghost use Rattle.layout.specs.Lengths.{block_size, stream_size};
-ghost use Rattle.blockreader.specs.BlockReader.{sector_sum, with_sums, block_read_answer, block_read_block, block_read_erasures, block_read_main, block_read_number, block_read_refusal, block_read_frame, block_read_refused_frame};
-ghost use Rattle.blockreader.specs.Inner.{add_sector};
+ghost use Rattle.layout.specs.Lengths.{main_size};
+ghost use Rattle.repairer.specs.Answer.{repair_answer, block_after, main_after, repair_refusal, refused_frame, block_answer_number, block_answer_frame};
+ghost use Rattle.blockreader.specs.BlockReader.{sector_sum, with_sums, block_read_answer, block_read_block, block_read_erasures, block_read_main, block_read_refusal, block_read_refused_frame};
 
 use layout::{
     BLOCK_SIZE, MAIN_SIZE, SECTOR_COUNT, SECTOR_READ, SECTOR_SIZE, SECTOR_STREAM, STREAM_SIZE,
 };
-use reader::SectorRead;
-use repairer::{Repaired, Tallies};
+use reader::{ReadingTables, SectorTally};
+use refusals::Refusal;
+use repairer::{BlockRefusal, Tallies};
 
-// What the whole-block reader answers. The number of each is `block_read_number`, and the frame it carries `block_read_frame`.
-#[derive(Clone, Copy)]
-pub enum BlockRead {
-    // All frames pass: the main data are handed out, with the first number, the repairer's tallies and the sums of the sector tallies.
-    Block {
-        first: u32,
-        tallies: Tallies,
-        unknown: u32,
-        sync: u32,
-    },
-    // The first frame that fails, 0 to 15, with the lowest number that applies in it.
-    FrameRefused {
-        number: u8,
-        frame: u8,
-    },
-    // A mark is neither 0 nor 1: the repairer's answer, which is never given here, since the sector reader's marks are.
-    ErasureRefused,
-    // A buffer has another length than stated.
-    LengthRefused,
+// A block whose frames all pass: its first number, the repairer's tallies, and the sums of the sector tallies.
+#[derive(Clone, Copy, PartialEq, Eq, Debug)]
+pub struct BlockRead {
+    pub first: u32,
+    pub tallies: Tallies,
+    pub unknown: u32,
+    pub sync: u32,
 }
 
-// The sums of the two sector tallies.
-#[derive(Drop)]
-struct Sums {
-    unknown: u32,
-    sync: u32,
-}
-
-impl Sums {
-    // The sums with one sector more.
-    fn with(self, r: SectorRead) -> Sums
-        requires unknown_bound { self.unknown < 65536 }
-        requires sync_bound { self.sync < 65536 }
-        ensures { result ≡ add_sector self r }
-    {
-        match r {
-            SectorRead::Sector { unknown, sync } => Sums {
-                unknown: self.unknown + unknown % 65536,
-                sync: self.sync + sync % 65536,
-            },
-            SectorRead::LengthRefused => self,
-        }
-    }
-}
-
-// The sixteen sectors, each with the two bytes after it, one after the other into the block buffer, and their marks.
-fn read_sectors(stream: &[u8], block: &mut [u8], erasures: &mut [u8]) -> Sums
-    requires { (length stream.now ≡ stream_size)
-        × (length block.old ≡ block_size)
-        × (length erasures.old ≡ block_size) }
-    ensures { (block.new ≡ read_block stream.now)
-        × (erasures.new ≡ erasures_of_block stream.now)
-        × (result.unknown ≡ sector_sum unknown_tally stream.now 0 16)
-        × (result.sync ≡ sector_sum sync_tally stream.now 0 16) }
+// The sixteen sectors, each with the two bytes after it, one after the other into the block buffer, and their marks. The answer has the sums of their tallies.
+fn read_sectors(
+    stream: &[u8; STREAM_SIZE],
+    block: &mut [u8; BLOCK_SIZE],
+    erasures: &mut [u8; BLOCK_SIZE],
+) -> SectorTally
+    ensures block_after { block.new ≡ read_block stream.now }
+    ensures erasures_after { erasures.new ≡ erasures_of_block stream.now }
+    ensures unknown { result.unknown ≡ sector_sum unknown_tally stream.now 0 16 }
+    ensures sync { result.sync ≡ sector_sum sync_tally stream.now 0 16 }
 {
-    let words = annexg::main_table();
-    let substitutes = annexg::sub_table();
-    let index = wordindex::word_index(&words, &substitutes);
-    let syncs = annexg::sync_table();
-    let mut s = Sums {
+    let tables = ReadingTables::new();
+    let mut sums = SectorTally {
         unknown: 0,
         sync: 0,
     };
-    let mut k: usize = 0;
-    while k < SECTOR_COUNT {
+    for k in 0..SECTOR_COUNT {
         let from = SECTOR_STREAM * k;
         let to = from + SECTOR_READ;
         let at = SECTOR_SIZE * k;
         let end = at + SECTOR_SIZE;
-        let r = reader::read_sector_with(
-            &words,
-            &substitutes,
-            &index,
-            &syncs,
+        let read = reader::read_sector_with(
+            &tables,
             &stream[from..to],
             &mut block[at..end],
             &mut erasures[at..end],
         );
-        s = s.with(r);
-        k += 1;
+        // the parts have the lengths that the sector reader wants, so it refuses none
+        let tally = read.unwrap();
+        sums.unknown += tally.unknown;
+        sums.sync += tally.sync;
     }
-    s
+    sums
 }
 
-fn answer_of(r: Repaired, s: Sums) -> BlockRead
-    ensures { result ≡ with_sums r s.unknown s.sync }
+// The sixteen sectors, and then the repair. The repairer gets the bytes that were read, and the sector reader's marks.
+fn read_and_repair(
+    stream: &[u8; STREAM_SIZE],
+    block: &mut [u8; BLOCK_SIZE],
+    erasures: &mut [u8; BLOCK_SIZE],
+    main: &mut [u8; MAIN_SIZE],
+) -> Result<BlockRead, BlockRefusal>
+    ensures value { result
+        ≡ with_sums
+        (repair_answer (read_block stream.now) (erasures_of_block stream.now) main_size)
+        (sector_sum unknown_tally stream.now 0 16)
+        (sector_sum sync_tally stream.now 0 16) }
+    ensures number { block_answer_number result
+        ≡ repair_refusal (read_block stream.now) (erasures_of_block stream.now) main_size }
+    ensures frame { block_answer_frame result
+        ≡ refused_frame (read_block stream.now) (erasures_of_block stream.now) main_size }
+    ensures block_after { block.new
+        ≡ block_after (read_block stream.now) (erasures_of_block stream.now) main_size }
+    ensures erasures_after { erasures.new ≡ erasures_of_block stream.now }
+    ensures main_after { main.new
+        ≡ main_after (read_block stream.now) (erasures_of_block stream.now) main.old }
 {
-    match r {
-        Repaired::Block { first, tallies } => BlockRead::Block {
-            first,
-            tallies,
-            unknown: s.unknown,
-            sync: s.sync,
-        },
-        Repaired::FrameRefused { number, frame } => BlockRead::FrameRefused { number, frame },
-        Repaired::ErasureRefused => BlockRead::ErasureRefused,
-        Repaired::LengthRefused => BlockRead::LengthRefused,
-    }
+    let sums = read_sectors(stream, block, erasures);
+    let repair = repairer::repair_block(block, erasures, main)?;
+    Ok(BlockRead {
+        first: repair.first,
+        tallies: repair.tallies,
+        unknown: sums.unknown,
+        sync: sums.sync,
+    })
 }
 
 // The whole-block reader. Where a buffer has another length than stated, everything is left as it was.
+#[tactic(auto, unfolding(crate::specs::BlockReader::block_fits, crate::specs::BlockReader::block_read_answer, crate::specs::BlockReader::block_read_block, crate::specs::BlockReader::block_read_erasures, crate::specs::BlockReader::block_read_main, crate::specs::BlockReader::block_read_refusal, crate::specs::BlockReader::block_read_refused_frame))]
 pub fn read_block(
     stream: &[u8],
     block: &mut [u8],
     erasures: &mut [u8],
     main: &mut [u8],
-) -> BlockRead
+) -> Result<BlockRead, BlockRefusal>
     ensures value { result
         ≡ block_read_answer stream.now (length block.old) (length erasures.old)
         (length main.old) }
-    ensures result_value { block_read_number result
+    ensures result_value { block_answer_number result
         ≡ block_read_refusal stream.now (length block.old) (length erasures.old)
         (length main.old) }
-    ensures result_value_2 { block_read_frame result
+    ensures result_value_2 { block_answer_frame result
         ≡ block_read_refused_frame stream.now (length block.old)
         (length erasures.old) (length main.old) }
     ensures block_after { block.new
@@ -141,36 +119,11 @@ pub fn read_block(
         ≡ block_read_main stream.now (length block.old) (length erasures.old)
         main.old }
 {
-    if stream.len() != STREAM_SIZE {
-        return BlockRead::LengthRefused;
-    }
-    if block.len() != BLOCK_SIZE {
-        return BlockRead::LengthRefused;
-    }
-    if erasures.len() != BLOCK_SIZE {
-        return BlockRead::LengthRefused;
-    }
-    if main.len() != MAIN_SIZE {
-        return BlockRead::LengthRefused;
-    }
-    let s = read_sectors(stream, block, erasures);
-    let r = repairer::repair_block(block, erasures, main);
-    answer_of(r, s)
-}
-
-// Document 01's number of an answer, 0 where nothing is refused.
-pub fn block_read_number(r: BlockRead) -> u8
-    ensures { result ≡ block_read_number r }
-{
-    match r {
-        BlockRead::Block {
-            first: _,
-            tallies: _,
-            unknown: _,
-            sync: _,
-        } => 0,
-        BlockRead::FrameRefused { number, frame: _ } => number,
-        BlockRead::ErasureRefused => 11,
-        BlockRead::LengthRefused => 1,
-    }
+    let stream = stream.as_array::<STREAM_SIZE>().ok_or(Refusal::Length)?;
+    let block = block.as_mut_array::<BLOCK_SIZE>().ok_or(Refusal::Length)?;
+    let marks = erasures
+        .as_mut_array::<BLOCK_SIZE>()
+        .ok_or(Refusal::Length)?;
+    let main = main.as_mut_array::<MAIN_SIZE>().ok_or(Refusal::Length)?;
+    read_and_repair(stream, block, marks, main)
 }

@@ -9,54 +9,34 @@ use borrow.Author.Tests.{eq-eqb, ne_eqb, eqb-true}
 use lib.Dec.{eqb}
 use lib.ListN.{length, take, drop, length-append, length-drop, take-append-drop}
 use lib.Seq.{length-take-le, take_all, take_at, drop_at, drop-length}
+use Rattle.std.specs.Prelude.{Option, None}
 use Rattle.octets.specs.Halves.{packed}
 use Rattle.octets.proofs.Halves.{packed-append}
 use Rattle.layout.specs.Lengths.{sector_count, block_size, sectors_stream, closing_size, stream_size}
 use Rattle.eccblock.specs.Block.{block}
 use Rattle.eccblock.specs.Encode.{encode_refusal, encoded_buffer, Accepted}
 use Rattle.eccblock.proofs.Laws.{block_length, block_bytes_lem}
-use Rattle.eccblock.specs.declared.Previous.{Previous}
-use Rattle.eccblock.specs.declared.Previous.TheVariants.{None}
 use Rattle.levels.specs.declared.Running.{Running}
 use Rattle.streams.specs.Frames.{sectors_of, closing_of, run_of}
 use Rattle.streams.specs.Streams.{Stream}
-use Rattle.writer.specs.Answers.{answer_number, sound, ended, block_refusal, sectors_refusal, sectors_next, sectors_out, closing_out}
+use Rattle.writer.specs.Answers.{sound, block_refusal, sectors_refusal, sectors_next, sectors_out, closing_refusal, closing_out}
 use Rattle.writer.specs.Inner.{sector_room}
-use Rattle.writer.specs.Session.{run_calls}
+use Rattle.writer.specs.Session.{NoneRefused, run_calls}
 use Rattle.writer.specs.Records.{start, running_of, peak_after, after_block}
-use Rattle.writer.specs.declared.Answer.{Answer}
-use Rattle.writer.specs.declared.Answer.TheVariants.{Done, LengthRefused, RunEnded, RunUnfinished, BadRecord, NotTried, OtherDsv}
 use Rattle.writer.specs.declared.Record.{Record}
 use Rattle.writer.proofs.Calls.{running_record}
 use Rattle.writer.proofs.Runs.{BlockWritten, parts_written, begins_start, begins_open, begins_more, closing_going}
 use Rattle.formatter.specs.Formatter.{write_block_refusal, write_block_next, write_block_out, block_stream, format_refusal, formatted_buffer}
-use Rattle.formatter.specs.Inner.{record_number, made_refusal, first_laid}
+use Rattle.formatter.specs.Inner.{first_laid}
 
 -- ---- the number
 
--- the writer refuses a block with 7 or 9 only
-pub record_number_lem : (w : Record) (a : Answer) → answer_number a ≡ block_refusal w → record_number a ≡ block_refusal w
-unfolding block_refusal
-record_number_lem w a e = by a (sound w) (ended w sector_count) e
-  where
-    by : (a : Answer) (s d : Bool) → answer_number a ≡ cond s (cond d 7 0) 9 → record_number a ≡ cond s (cond d 7 0) 9
-    by Done s d e = e
-    by LengthRefused true true e = absurd (omega arith)
-    by LengthRefused true false e = absurd (omega arith)
-    by LengthRefused false d e = absurd (omega arith)
-    by RunEnded s d e = e
-    by RunUnfinished true true e = absurd (omega arith)
-    by RunUnfinished true false e = absurd (omega arith)
-    by RunUnfinished false d e = absurd (omega arith)
-    by BadRecord s d e = e
-    by NotTried true true e = absurd (omega arith)
-    by NotTried true false e = absurd (omega arith)
-    by NotTried false d e = absurd (omega arith)
-    by OtherDsv true true e = absurd (omega arith)
-    by OtherDsv true false e = absurd (omega arith)
-    by OtherDsv false d e = absurd (omega arith)
+-- what is refused but for the length of the stream buffer
+abbrev pub made_refusal : Record → Option ℕ → ℕ → ℕ → ℕ → ℕ
+made_refusal w previous n first info =
+    cond (eqb (encode_refusal previous n block_size first info) 0) (block_refusal w) (encode_refusal previous n block_size first info)
 
-module _ (w : Record) (previous : Previous) (n first info : ℕ) where
+module _ (w : Record) (previous : Option ℕ) (n first info : ℕ) where
   abbrev refusal : ℕ
   refusal = encode_refusal previous n block_size first info
 
@@ -76,7 +56,7 @@ module _ (w : Record) (previous : Previous) (n first info : ℕ) where
 
 -- ---- record and buffer
 
-module _ (w : Record) (previous : Previous) (main : List ℕ) (first info : ℕ) (old : List ℕ) where
+module _ (w : Record) (previous : Option ℕ) (main : List ℕ) (first info : ℕ) (old : List ℕ) where
   abbrev number : ℕ
   number = write_block_refusal w previous (length main) (length old) first info
 
@@ -105,20 +85,32 @@ module _ (w : Record) (previous : Previous) (main : List ℕ) (first info : ℕ)
 
 -- the block maker's buffer where it refuses nothing
 pub block_made :
-    (previous : Previous) (main : List ℕ) (first info : ℕ) (was : List ℕ) → encode_refusal previous (length main) (length was) first info ≡ 0
+    (previous : Option ℕ) (main : List ℕ) (first info : ℕ) (was : List ℕ) → encode_refusal previous (length main) (length was) first info ≡ 0
     → encoded_buffer previous main first info was ≡ block main first info
 unfolding encoded_buffer
 block_made previous main first info was e = rw (eq-eqb (encode_refusal previous (length main) (length was) first info) 0 e)
 
--- the writer's sectors where neither the block maker nor the record refuses
-module _ (w : Record) (bs out : List ℕ) (l : length bs ≡ block_size) (m : length out ≡ sectors_stream) (z : block_refusal w ≡ 0) where
-  pub sectors_next_lem : sectors_next w bs (length out) ≡ after_block w bs
-  unfolding sectors_next sectors_refusal
-  sectors_next_lem = rw (eq-eqb (length bs) block_size l, eq-eqb (length out) sectors_stream m, eq-eqb (block_refusal w) 0 z)
+-- the writer's sectors of a block that the block maker takes
+module _ (w : Record) (previous : Option ℕ) (main : List ℕ) (first info : ℕ) (old : List ℕ) (l : length old ≡ sectors_stream) (ok : Accepted previous main first info) where
+  abbrev made_block : List ℕ
+  made_block = block main first info
 
-  pub sectors_out_lem : sectors_out w bs out ≡ packed (sectors_of (running_of w) bs sector_count).halves
-  unfolding sectors_out sectors_refusal
-  sectors_out_lem = rw (eq-eqb (length bs) block_size l, eq-eqb (length out) sectors_stream m, eq-eqb (block_refusal w) 0 z)
+  pub sectors_number : sectors_refusal w (length made_block) (length old) ≡ write_block_refusal w previous (length main) (length old) first info
+  unfolding sectors_refusal write_block_refusal
+  sectors_number =
+      rw (
+        eq-eqb (length made_block) block_size (block_length main first info ok),
+        eq-eqb (length old) sectors_stream l,
+        eq-eqb (encode_refusal previous (length main) block_size first info) 0 ok.taken,
+      ) refl
+
+  pub sectors_next_lem : sectors_next w made_block (length old) ≡ write_block_next w previous main first info (length old)
+  unfolding sectors_next write_block_next
+  sectors_next_lem = ap (λ (n : ℕ). cond (eqb n 0) (after_block w made_block) w) sectors_number
+
+  pub sectors_out_lem : sectors_out w made_block old ≡ write_block_out w previous main first info old
+  unfolding sectors_out write_block_out
+  sectors_out_lem = ap (λ (n : ℕ). cond (eqb n 0) (packed (sectors_of (running_of w) made_block sector_count).halves) old) sectors_number
 
 -- ---- the run of one block
 
@@ -213,6 +205,13 @@ module _ (main : List ℕ) (first info : ℕ) (old : List ℕ) where
           ap₂ closing_out next_is end_part
           ∙ (closing_going (after_block start made) (λ j k. []) rest (begins_more (begins_start 1 (omega arith) (omega arith)) wrote) rest_length).stream
           ∙ ap (λ (r : Running). packed (closing_of r).halves) (running_record sectors.running (peak_after start sectors sector_count) sector_count false)
+
+      pub closing_taken : closing_refusal next (length (take closing_size (drop sectors_stream stream))) ≡ 0
+      unfolding NoneRefused
+      closing_taken =
+          let rest = drop sectors_stream old in
+          ap₂ (λ (w : Record) (xs : List ℕ). closing_refusal w (length xs)) next_is end_part
+          ∙ (closing_going (after_block start made) (λ j k. []) rest (begins_more (begins_start 1 (omega arith) (omega arith)) wrote) rest_length).refusals
 
       -- the closing code after the sectors
       pub first_closed :

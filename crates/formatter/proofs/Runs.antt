@@ -11,14 +11,13 @@ use native.Mathlib.Omega.{arith}
 use borrow.Author.Tests.{eq-eqb, eqb-true}
 use lib.Dec.{T, eqb}
 use lib.ListN.{length, replicate, length-replicate}
+use Rattle.std.specs.Prelude.{Option, None, Some}
 use Rattle.lists.specs.Bytes.{Bytes}
 use Rattle.layout.specs.Lengths.{sector_count, sectors_stream, closing_size}
 use Rattle.channel.specs.Block.{Blocks, permitted_run, run_stream}
 use Rattle.eccblock.specs.Block.{block}
 use Rattle.eccblock.specs.Encode.{Accepted}
 use Rattle.eccblock.specs.Run.{BlockInput, AcceptedRun, made_block, run_blocks}
-use Rattle.eccblock.specs.declared.Previous.{Previous}
-use Rattle.eccblock.specs.declared.Previous.TheVariants.{None, First}
 use Rattle.eccblock.proofs.Laws.{block_length, block_bytes_lem}
 use Rattle.eccblock.proofs.Runs.{run_length_fits}
 use Rattle.streams.specs.Frames.{choices_of}
@@ -29,14 +28,13 @@ use Rattle.writer.specs.declared.Record.{Record}
 use Rattle.writer.proofs.Runs.{handed_calls, Begins, begins_start, begins_open, begins_more, closing_going, run_written, sector_room_lem, parts_written}
 use Rattle.writer.proofs.Sound.{Open, block_opens, open_taken}
 use Rattle.formatter.specs.Formatter.{write_block_refusal, write_block_next}
-use Rattle.formatter.specs.Inner.{made_refusal}
 use Rattle.formatter.specs.Session.{block_calls, BlocksTaken}
-use Rattle.formatter.proofs.Answers.{neither_refuses, block_next, block_out}
+use Rattle.formatter.proofs.Answers.{made_refusal, neither_refuses, block_next, block_out}
 
 -- ---- a run
 
 block_taken :
-    (w : Record) (previous : Previous) (i : BlockInput) (m : ℕ) → Open w sector_count → Accepted previous i.main i.first i.info → m ≡ sectors_stream
+    (w : Record) (previous : Option ℕ) (i : BlockInput) (m : ℕ) → Open w sector_count → Accepted previous i.main i.first i.info → m ≡ sectors_stream
     → write_block_refusal w previous (length i.main) m i.first i.info ≡ 0
 unfolding write_block_refusal
 block_taken w previous i m o ok l = rw (eq-eqb m sectors_stream l, ok.taken) (open_taken w o)
@@ -50,12 +48,12 @@ abbrev rooms : (ℕ → List ℕ) → ℕ → ℕ → List ℕ
 rooms outs j = sector_room (outs j)
 
 -- the calls for the blocks of a run and for closing from the record w: none is refused, and they are the writer's over the same blocks, in the same buffers
-record AsSectors (w : Record) (previous : Previous) (is : List BlockInput) (outs : ℕ → List ℕ) (end : List ℕ) : Type 0 where
+record AsSectors (w : Record) (previous : Option ℕ) (is : List BlockInput) (outs : ℕ → List ℕ) (end : List ℕ) : Type 0 where
   refusals : BlocksTaken w previous is outs end
   same : block_calls w previous is outs end ≡ run_calls writes w (run_blocks is) (rooms outs) end
 
 as_sectors :
-    (is : List BlockInput) (w : Record) (previous : Previous) (outs : ℕ → List ℕ) (end : List ℕ) → Begins w (length is) → AcceptedRun previous is
+    (is : List BlockInput) (w : Record) (previous : Option ℕ) (outs : ℕ → List ℕ) (end : List ℕ) → Begins w (length is) → AcceptedRun previous is
     → BlockRooms outs (length is) → length end ≡ closing_size → AsSectors w previous is outs end
 unfolding AcceptedRun run_blocks BlocksTaken block_calls NoneRefused run_calls
 as_sectors [] w previous outs end b ok ho l = record { refusals = (closing_going w (rooms outs) end b l).refusals; same = refl }
@@ -67,24 +65,24 @@ as_sectors (i ∷ is) w previous outs end b (ok, oks) ho l =
     parts_written w (made_block i) (outs 0) (begins_open b) (block_length i.main i.first i.info ok) (block_bytes_lem i.main i.first i.info ok) size in
     let out-is = sym (block_out w previous i.main i.first i.info (outs 0) taken) ∙ sym written.stream in
     let next_is = sym (block_next w previous i.main i.first i.info (outs 0) taken) in
-    let rest = as_sectors is (after_block w (made_block i)) (First i.first) later end (begins_more b written) oks (λ k h. ho (suc k) (omega arith)) l in
+    let rest = as_sectors is (after_block w (made_block i)) (Some i.first) later end (begins_more b written) oks (λ k h. ho (suc k) (omega arith)) l in
     record {
-      refusals = (taken, subst (λ (v : Record). BlocksTaken v (First i.first) is later end) (sym next_is) rest.refusals);
+      refusals = (taken, subst (λ (v : Record). BlocksTaken v (Some i.first) is later end) (sym next_is) rest.refusals);
       same =
           ap₂ (λ (u : List ℕ) (t : Session). record { bytes = u ++ t.bytes; next = t.next }) out-is
-          (ap (λ (v : Record). block_calls v (First i.first) is later end) next_is
+          (ap (λ (v : Record). block_calls v (Some i.first) is later end) next_is
           ∙ rest.same
           ∙ ap (λ (v : Record). run_calls writes v (run_blocks is) (rooms later) end) (sym (written.next (omega arith))));
     }
 
 -- ---- the blocks of an accepted run
 
-pub accepted_blocks : (previous : Previous) (is : List BlockInput) → AcceptedRun previous is → Blocks (run_blocks is)
+pub accepted_blocks : (previous : Option ℕ) (is : List BlockInput) → AcceptedRun previous is → Blocks (run_blocks is)
 unfolding AcceptedRun run_blocks Blocks
 accepted_blocks previous [] ok = tt
 accepted_blocks previous (i ∷ is) (ok, oks) = (
   (block_length i.main i.first i.info ok, block_bytes_lem i.main i.first i.info ok),
-  accepted_blocks (First i.first) is oks,
+  accepted_blocks (Some i.first) is oks,
 )
 
 pub blocks_length : (is : List BlockInput) → length (run_blocks is) ≡ length is
@@ -122,7 +120,7 @@ run_formatted is outs end some ok ho l =
 
 -- a record that a block of any bytes hands back is one that the writer hands back
 pub block_handed :
-    (w : Record) (previous : Previous) (main : List ℕ) (first info m : ℕ) → Handed w → Bytes main → info < 256
+    (w : Record) (previous : Option ℕ) (main : List ℕ) (first info m : ℕ) → Handed w → Bytes main → info < 256
     → Handed (write_block_next w previous main first info m)
 unfolding write_block_next write_block_refusal
 block_handed w previous main first info m h hm hi = by (eqb refusal 0) refl
@@ -152,7 +150,7 @@ block_handed w previous main first info m h hm hi = by (eqb refusal 0) refl
 
 -- the peak never falls, whether the block is refused or not
 pub block_peak_never_falls :
-    (w : Record) (previous : Previous) (main : List ℕ) (first info m : ℕ) → w.peak ≤ (write_block_next w previous main first info m).peak
+    (w : Record) (previous : Option ℕ) (main : List ℕ) (first info m : ℕ) → w.peak ≤ (write_block_next w previous main first info m).peak
 unfolding write_block_next
 block_peak_never_falls w previous main first info m = by (eqb (write_block_refusal w previous (length main) m first info) 0)
   where

@@ -1,4 +1,5 @@
 -- The repair of a word of n bytes with p roots and its marks: one text, which the functions of rows and of columns cite.
+--   word_bytes                                      the bytes of an array are bytes
 --   Shape n p                                       what the two numbers have to do with one another; row_shape, column_shape, shape_of: rows and columns have it
 --   word_syndromes                                  the syndromes of a word, from what is left of it by the generator
 --   word_overfull                                   more marks than roots
@@ -13,8 +14,11 @@ use mathlib.Core.Logic.{inl, inr}
 use Prim.Native.Nat.{ℕ, ◌+◌, ◌-◌, ◌/◌, ◌<◌, ◌≤◌}
 use native.Mathlib.Omega.{arith}
 use lib.Dec.{eqb}
-use lib.ListN.{length, take, replicate}
+use lib.ListN.{length, get_or, take, replicate}
+use mir.Val.{Fits}
+use mir.Syntax.{w8}
 use Rattle.lists.specs.Bytes.{Bytes}
+use Rattle.lists.proofs.Bytes.{bytes_of}
 use Rattle.lists.specs.Fill.{tabulate}
 use Rattle.lists.proofs.Count.{count_none, none-counted}
 use Rattle.codes.specs.Word.{syndrome, all_zero}
@@ -36,6 +40,10 @@ use Rattle.division.specs.declared.register.Remainder.{Remainder}
 use Rattle.division.proofs.Division.{zeros-place}
 use Rattle.syndromes.proofs.Left.{syndromes_left}
 use Rattle.reedsolomon.specs.Inner.{Sizes}
+
+-- the bytes of an array are bytes
+pub word_bytes : (w : List ℕ) → ((i : ℕ) → Fits w8 (get_or w i 0)) → Bytes w
+word_bytes w fits = bytes_of w (λ i l. let f = fits i in omega (arith, f.fits))
 
 -- words of n bytes with p roots
 pub record Shape (n p : ℕ) : Type 0 where

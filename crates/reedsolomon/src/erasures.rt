@@ -30,8 +30,8 @@ pub(crate) fn take_out_erased(logs: &Logs, erasures: &[u8], syndromes: &mut [u8]
 {
     for (i, mark) in erasures.iter().enumerate() {
         if *mark == 1 {
-            let k = (erasures.len() - 1 - i) as u8;
-            crate::mend::take_out(logs, syndromes, logs.alpha_power(k));
+            let x = logs.alpha_power((erasures.len() - 1 - i) as u8);
+            crate::mend::take_out(logs, syndromes, x);
         }
     }
 }

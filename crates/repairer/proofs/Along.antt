@@ -5,7 +5,7 @@
 --   WordsUpto                                         the words before k are repaired, and everything else is as it was
 --   words_none, word_same, words_more, words_all      its steps
 -- Assumes nothing.
-use mathlib.Core.Path.{◌≡◌, refl, sym, ap, subst, ◌∙◌, ◌≡⟨◌⟩◌, ◌∎}
+use mathlib.Core.Path.{◌≡◌, refl, sym, ap, ◌∙◌, ◌≡⟨◌⟩◌, ◌∎}
 use mathlib.Core.Bool.{Bool, true, false, cond}
 use mathlib.Core.List.{List}
 use mathlib.Core.Logic.{◌≢◌, dite}
@@ -27,8 +27,8 @@ use Rattle.codes.specs.declared.Outcome.{Outcome}
 use Rattle.codes.proofs.Nearest.{nearest-length}
 use Rattle.codes.proofs.Erasures.{erased_length}
 use Rattle.codes.specs.declared.Outcome.TheVariants.{Clean}
-use Rattle.multiples.specs.Inner.{high, low}
-use Rattle.division.specs.Inner.{remainder_of, unpacked}
+use Rattle.division.specs.Inner.{packed, remainder_of, unpacked}
+use Rattle.division.specs.declared.register.Remainder.{Remainder}
 use Rattle.octets.specs.Inner.{Stored}
 use Rattle.layout.specs.Rows.{original_row, row_of, column_of}
 use Rattle.layout.proofs.Order.{recording_original}
@@ -36,19 +36,13 @@ use Rattle.layout.proofs.Places.{row_length, row_bytes, row_byte, column_length,
 use Rattle.reedsolomon.proofs.Repair.{Shape, row_shape, column_shape, word_syndromes, word_clean, zeros-count, unmarked-repaired}
 use Rattle.layout.specs.Lengths.{block_size, row_count, row_size, column_count, data_rows}
 use Rattle.repairer.specs.Repair.{rows_repaired, columns_repaired}
-use Rattle.repairer.specs.Inner.{roots_of, count_of, size_of, word_of, place_of, repaired_word, outcome_of_word, repaired_along, Divided}
-use Rattle.repairer.specs.declared.words.Axis.{Axis}
-use Rattle.repairer.specs.declared.words.Axis.TheVariants.{Rows, Columns}
+use Rattle.repairer.specs.Inner.{Axis, Rows, Columns, roots_of, count_of, size_of, word_of, place_of, repaired_word, outcome_of_word, repaired_along, Divided}
 
 -- ---- a word
 
 -- of word k became r, and what the repair gives for it stands in its place. ms are the marks of the block's bytes
 abbrev pub RepairedWord : Axis → List ℕ → List ℕ → ℕ → Outcome → List ℕ → Type 0
 RepairedWord a ms xs k r new = (r ≡ outcome_of_word a ms xs k) × Stored (place_of a k) (repaired_word a ms xs k) xs new (size_of a)
-
--- along b, which is the axis a
-pub repaired_along_lem : (a b : Axis) → a ≡ b → (ms xs : List ℕ) (k : ℕ) (r : Outcome) (new : List ℕ) → RepairedWord b ms xs k r new → RepairedWord a ms xs k r new
-repaired_along_lem a b e ms xs k r new h = subst (λ (x : Axis). RepairedWord x ms xs k r new) (sym e) h
 
 pub word_shape : (a : Axis) → Shape (size_of a) (roots_of a)
 word_shape Rows = row_shape
@@ -86,19 +80,16 @@ count_most Rows = omega arith
 count_most Columns = omega arith
 
 -- what is known of a word before its turn is known as long as the word is as it was
-pub divided_same : (a : Axis) (xs ys regs : List ℕ) (k : ℕ) → word_of a ys k ≡ word_of a xs k → Divided a xs regs k → Divided a ys regs k
+pub divided_same : (a : Axis) (xs ys : List ℕ) (regs : List Remainder) (k : ℕ) → word_of a ys k ≡ word_of a xs k → Divided a xs regs k → Divided a ys regs k
 divided_same Rows xs ys regs k e d = tt
-divided_same Columns xs ys regs k e d = record {
-  first = d.first ∙ ap (λ (w : List ℕ). high (parity 16 (take data_rows w))) (sym e);
-  second = d.second ∙ ap (λ (w : List ℕ). low (parity 16 (take data_rows w))) (sym e);
-}
+divided_same Columns xs ys regs k e d = record { register = λ r. d.register r ∙ ap (λ (w : List ℕ). packed (parity 16 (take data_rows w))) (sym e) }
 
 module _ (a : Axis) (xs : List ℕ) (k : ℕ) (e : length xs ≡ block_size) (small : (i : ℕ) → get_or xs i 0 < 256) (h : k < count_of a) where
-  -- x and y are what is left of word k, and s the syndromes of that
+  -- r is what is left of word k, and s the syndromes of that
   pub left_syndromes :
-      (x y : ℕ) (s : List ℕ) → x ≡ high (remainder_of (roots_of a) (word_of a xs k)) → y ≡ low (remainder_of (roots_of a) (word_of a xs k))
-      → s ≡ tabulate (syndrome (take (roots_of a) (unpacked x y))) (roots_of a) → s ≡ tabulate (syndrome (word_of a xs k)) (roots_of a)
-  left_syndromes x y s ex ey es = word_syndromes (word_shape a) (word_of a xs k) (word_length a xs k e h) (word_bytes a xs small k) x y s ex ey es
+      (r : Remainder) (s : List ℕ) → r ≡ packed (remainder_of (roots_of a) (word_of a xs k)) → s ≡ tabulate (syndrome (take (roots_of a) (unpacked r))) (roots_of a)
+      → s ≡ tabulate (syndrome (word_of a xs k)) (roots_of a)
+  left_syndromes r s er es = word_syndromes (word_shape a) (word_of a xs k) (word_length a xs k e h) (word_bytes a xs small k) r s er es
 
 -- a word that becomes itself stands in its place already
 stays : (a : Axis) (ms xs : List ℕ) (k : ℕ) → word_of a xs k ≡ repaired_word a ms xs k → Stored (place_of a k) (repaired_word a ms xs k) xs xs (size_of a)

@@ -2,15 +2,16 @@
 -- Assumes nothing.
 use mathlib.Core.Path.{◌≡◌, sym, ap, ap₂, ◌∙◌}
 use mathlib.Core.List.{List}
-use Prim.Native.Nat.{ℕ, ◌+◌, ◌*◌, ◌-◌}
+use Prim.Native.Nat.{ℕ, ◌+◌, ◌-◌}
 use native.Mathlib.Omega.{arith}
 use lib.ListN.{length, get_or, take, drop}
 use Rattle.lists.specs.Bytes.{Bytes}
 use Rattle.field.specs.Field.{add}
 use Rattle.codes.specs.Parity.{parity}
 use Rattle.multiples.specs.Inner.{high, low}
-use Rattle.division.specs.Inner.{remainder_of}
-use Rattle.division.proofs.Words.{left-high, left-low}
+use Rattle.division.specs.Inner.{packed, remainder_of}
+use Rattle.division.specs.declared.register.Remainder.{Remainder}
+use Rattle.division.proofs.Words.{left_packed}
 use Rattle.octets.specs.Inner.{Stored}
 use Rattle.layout.specs.Rows.{column_of}
 use Rattle.layout.specs.Inner.{column_place}
@@ -19,17 +20,14 @@ use Rattle.layout.specs.Lengths.{row_count, data_rows}
 use Rattle.repairer.specs.Inner.{ColumnDivided}
 
 pub column_left :
-    (xs regs end : List ℕ) (j : ℕ) → Bytes (column_of xs j) → ColumnDivided xs regs j → end ≡ drop data_rows (column_of xs j)
-    → (add (get_or regs (2 * j) 0) (high end) ≡ high (remainder_of 16 (column_of xs j)))
-    × (add (get_or regs (2 * j + 1) 0) (low end) ≡ low (remainder_of 16 (column_of xs j)))
-column_left xs regs end j bytes d e =
+    (xs : List ℕ) (regs : List Remainder) (end : List ℕ) (j : ℕ) (q r : Remainder) → Bytes (column_of xs j) → ColumnDivided xs regs j → end ≡ drop data_rows (column_of xs j)
+    → r.high ≡ add (get_or regs j q).high (high end) → r.low ≡ add (get_or regs j q).low (low end) → r ≡ packed (remainder_of 16 (column_of xs j))
+column_left xs regs end j q r bytes d e eh el =
     let w : List ℕ = column_of xs j in
-    let size : length w - 16 ≡ data_rows = omega (arith, column_length xs j) in (
-      ap₂ add d.first (ap high e)
-          ∙ sym (left-high 16 w bytes (omega (arith, column_length xs j)) ∙ ap (λ (n : ℕ). add (high (parity 16 (take n w))) (high (drop n w))) size),
-      ap₂ add d.second (ap low e)
-          ∙ sym (left-low 16 w bytes (omega (arith, column_length xs j)) ∙ ap (λ (n : ℕ). add (low (parity 16 (take n w))) (low (drop n w))) size),
-    )
+    let size : data_rows ≡ length w - 16 = omega (arith, column_length xs j) in
+    left_packed 16 w bytes (omega (arith, column_length xs j)) r
+    (eh ∙ ap₂ add (ap (λ (x : Remainder). x.high) (d.register q)) (ap high e) ∙ ap (λ (n : ℕ). add (high (parity 16 (take n w))) (high (drop n w))) size)
+    (el ∙ ap₂ add (ap (λ (x : Remainder). x.low) (d.register q)) (ap low e) ∙ ap (λ (n : ℕ). add (low (parity 16 (take n w))) (low (drop n w))) size)
 
 -- all 208 bytes of a column, stored from its byte 0 on
 pub column_stored :

@@ -1,14 +1,10 @@
 -- The frames, one at a time: the judgement, and the main data.
 -- Assumes nothing.
 use mathlib.Core.Path.{◌≡◌, ap, ap₂, subst, ◌∙◌}
-use mathlib.Core.Bool.{cond}
 use mathlib.Core.List.{List}
-use mathlib.Core.Logic.{◌≢◌}
 use Prim.Native.Nat.{ℕ, suc, ◌+◌, ◌*◌, ◌-◌, ◌/◌, ◌%◌, ◌<◌, ◌≤◌}
 use native.Mathlib.Numerals.{add-one}
 use native.Mathlib.Omega.{arith}
-use borrow.Author.Tests.{eq-eqb, ne_eqb}
-use lib.Dec.{eqb}
 use lib.ListN.{length, get_or, take, drop, length-drop}
 use lib.Seq.{sets, length-take-le}
 use Rattle.lists.proofs.Fill.{Upto, upto_all}
@@ -16,36 +12,40 @@ use Rattle.dataframe.specs.Checks.{info_of, number_of, unscrambled, main_of, fra
 use Rattle.octets.specs.Inner.{Stored, following}
 use Rattle.layout.specs.Rows.{frame_of}
 use Rattle.layout.specs.Lengths.{main_size, frame_size, frame_main_size}
-use Rattle.repairer.specs.Answer.{frame_fault, judged}
-use Rattle.repairer.specs.declared.Repaired.{Repaired}
-use Rattle.repairer.specs.declared.Repaired.TheVariants.{FrameRefused}
+use Rattle.std.specs.Prelude.{Result, Ok, Err, ⊤}
+use Rattle.refusals.specs.declared.Refusal.{Refusal}
+use Rattle.refusals.specs.Refusal.{answer_number}
+use Rattle.repairer.specs.Answer.{frame_fault, frame_answer, of_frame, in_order, judged}
+use Rattle.repairer.specs.declared.Repair.{Repair}
+use Rattle.repairer.specs.declared.BlockRefusal.{BlockRefusal}
+use Rattle.repairer.proofs.Numbers.{answer_is}
 use Rattle.octets.proofs.Copies.{put_stored, upto_row}
 
 -- ---- the judgement
 
-module _ (ys : List ℕ) (k : ℕ) (a : Repaired) (h : k < 16) where
-  opened : judged ys k (16 - k) a ≡ cond (eqb (frame_fault ys k) 0) (judged ys (k + 1) (16 - (k + 1)) a) (FrameRefused (frame_fault ys k) k)
+module _ (ys : List ℕ) (k : ℕ) (a : Result Repair BlockRefusal) (h : k < 16) (r : Result ⊤ Refusal) (e : r ≡ frame_answer ys k) where
+  opened : judged ys k (16 - k) a ≡ in_order r k (judged ys (k + 1) (16 - (k + 1)) a)
   unfolding judged
   opened =
-      let e : 16 - k ≡ suc (16 - (k + 1)) = omega arith in
-      rw (e, add-one k)
+      let d : 16 - k ≡ suc (16 - (k + 1)) = omega arith in
+      rw (d, add-one k, e)
 
-  pub frame_passes : frame_fault ys k ≡ 0 → judged ys k (16 - k) a ≡ judged ys (k + 1) (16 - (k + 1)) a
-  frame_passes e = opened ∙ rw (eq-eqb (frame_fault ys k) 0 e)
+  pub frame_passes : (u : ⊤) → r ≡ Ok u → judged ys k (16 - k) a ≡ judged ys (k + 1) (16 - (k + 1)) a
+  frame_passes u p = opened ∙ ap (λ (x : Result ⊤ Refusal). in_order x k (judged ys (k + 1) (16 - (k + 1)) a)) p
 
-  pub frame_fails : frame_fault ys k ≢ 0 → judged ys k (16 - k) a ≡ FrameRefused (frame_fault ys k) k
-  frame_fails n = opened ∙ rw (ne_eqb (frame_fault ys k) 0 n)
+  pub frame_fails : (x : Refusal) → r ≡ Err x → judged ys k (16 - k) a ≡ Err (of_frame k x)
+  frame_fails x p = opened ∙ ap (λ (y : Result ⊤ Refusal). in_order y k (judged ys (k + 1) (16 - (k + 1)) a)) p
 
-pub judged-none : (ys : List ℕ) (k n : ℕ) (a : Repaired) → n ≡ 0 → judged ys k n a ≡ a
+pub judged-none : (ys : List ℕ) (k n : ℕ) (a : Result Repair BlockRefusal) → n ≡ 0 → judged ys k n a ≡ a
 unfolding judged
 judged-none ys k n a e = rw e
 
--- the fault of frame k, by what was read of it and of frame 0
-pub fault_is :
-    (ys : List ℕ) (k : ℕ) (f g : List ℕ) (first info n : ℕ) → f ≡ frame_of ys 0 → first ≡ number_of f → info ≡ info_of f → g ≡ frame_of ys k
-    → n ≡ frame_refusal first info k g → n ≡ frame_fault ys k
+-- the answer of frame k's checks, by what was read of it and of frame 0
+pub answer_of :
+    (ys : List ℕ) (k i j : ℕ) (f g : List ℕ) (first info : ℕ) (r : Result ⊤ Refusal) → f ≡ frame_of ys 0 → first ≡ number_of f → info ≡ info_of f
+    → g ≡ frame_of ys i → answer_number r ≡ frame_refusal first info j g → i ≡ k → j ≡ k → r ≡ frame_answer ys k
 unfolding frame_fault
-fault_is ys k f g first info n a b c d e = cc
+answer_of ys k i j f g first info r a b c d e p q = answer_is ys k r (cc)
 
 -- ---- the main data
 

@@ -1,102 +1,171 @@
--- The number of the block repairer's answer, and the frame that it carries; and first_failing from outside its recursion.
+-- What the checks of a frame answer, by its number (answer_is); the number of the block repairer's answer, and the frame that it carries; and first_failing from
+-- outside its recursion.
 -- Assumes nothing.
 use mathlib.Core.Path.{◌≡◌, refl, sym, ap, ◌∙◌}
 use mathlib.Core.Bool.{Bool, true, false, cond, ◌&&◌}
-use mathlib.Core.List.{List}
+use mathlib.Core.List.{List, [], ◌∷◌}
 use mathlib.Core.Logic.{◌≢◌, dite}
 use Prim.Native.Nat.{ℕ, zero, suc, ◌+◌, ◌<◌, ◌≤◌}
 use native.Mathlib.Decide.{ℕ_discrete}
 use native.Mathlib.Omega.{arith}
-use borrow.Author.Tests.{lt-ltb, eqb-true, eqb-false}
-use lib.Dec.{eqb, ltb}
+use borrow.Author.Tests.{eqb-true, eqb-false}
+use lib.Dec.{eqb}
+use lib.ListN.{get_or}
+use Rattle.std.specs.Prelude.{None, Some, Result, Ok, Err, ⊤}
+use Rattle.refusals.specs.declared.Refusal.{Refusal}
+use Rattle.refusals.specs.declared.Refusal.TheVariants.{Length, FirstNumber, Information, Ied, Id, Edc, RunEnded, RunUnfinished, BadRecord, Sequence, Mark, NotTried, OtherDsv, Stretches}
+use Rattle.refusals.specs.Refusal.{refusal_number, answer_number}
 use Rattle.dataframe.specs.Checks.{info_of, number_of, ied_passes, id_passes, edc_passes, frame_refusal}
 use Rattle.layout.specs.Rows.{frame_of}
 use Rattle.repairer.specs.Repair.{repaired, tallies_of}
-use Rattle.repairer.specs.Answer.{frame_fault, judged, lengths_fit, marks_fit, input_fits, repair_answer, no_frame, first_failing, refused_frame, repair_refusal, repair_number, repair_frame}
-use Rattle.repairer.specs.declared.Repaired.{Repaired}
-use Rattle.repairer.specs.declared.Repaired.TheVariants.{Block, FrameRefused, ErasureRefused, LengthRefused}
+use Rattle.repairer.specs.Answer.{frame_fault, passed, frame_answer, of_block, in_order, judged, lengths_fit, marks_fit, input_fits, repair_of, repair_answer, first_failing, refused_frame, fault_at, repair_refusal, block_answer_number, block_answer_frame}
+use Rattle.repairer.specs.declared.Repair.{Repair}
+use Rattle.repairer.specs.declared.BlockRefusal.{BlockRefusal}
 
--- ---- the first frame that fails: it fails, and the frames before it pass
+-- ---- a refusal goes by its number
+
+-- each answer by its number
+abbrev by_number : List (Result ⊤ Refusal)
+by_number = passed ∷ Err Length ∷ Err FirstNumber ∷ Err Information ∷ Err Ied ∷ Err Id ∷ Err Edc ∷ Err RunEnded ∷ Err RunUnfinished ∷ Err BadRecord ∷ Err Sequence ∷ Err Mark ∷ Err NotTried ∷ Err OtherDsv ∷ Err Stretches ∷ []
+
+numbered : (a : Result ⊤ Refusal) → get_or by_number (answer_number a) passed ≡ a
+numbered (Ok tt) = refl
+numbered (Err Length) = refl
+numbered (Err FirstNumber) = refl
+numbered (Err Information) = refl
+numbered (Err Ied) = refl
+numbered (Err Id) = refl
+numbered (Err Edc) = refl
+numbered (Err RunEnded) = refl
+numbered (Err RunUnfinished) = refl
+numbered (Err BadRecord) = refl
+numbered (Err Sequence) = refl
+numbered (Err Mark) = refl
+numbered (Err NotTried) = refl
+numbered (Err OtherDsv) = refl
+numbered (Err Stretches) = refl
+
+-- ---- the checks of a frame
+
+-- the number of what the checks answer is the frame's
+pub frame_number : (ys : List ℕ) (k : ℕ) → answer_number (frame_answer ys k) ≡ frame_fault ys k
+unfolding frame_fault frame_answer frame_refusal
+frame_number ys k = go (ied_passes (frame_of ys k)) (id_passes (number_of (frame_of ys 0)) (info_of (frame_of ys 0)) k (frame_of ys k)) (edc_passes (frame_of ys k))
+  where
+    go : (a b c : Bool) → answer_number (cond a (cond b (cond c passed (Err Edc)) (Err Id)) (Err Ied)) ≡ cond a (cond b (cond c 0 6) 5) 4
+    go true true true = refl
+    go true true false = refl
+    go true false c = refl
+    go false b c = refl
+
+-- and what is answered with the frame's number is what they answer
+pub answer_is : (ys : List ℕ) (k : ℕ) (a : Result ⊤ Refusal) → answer_number a ≡ frame_fault ys k → a ≡ frame_answer ys k
+answer_is ys k a e =
+    sym (numbered a) ∙ ap (λ (n : ℕ). get_or by_number n passed) (e ∙ sym (frame_number ys k)) ∙ numbered (frame_answer ys k)
+
+-- no refusal has the number 0
+refused : (r : Refusal) → eqb (refusal_number r) 0 ≡ false
+refused Length = refl
+refused FirstNumber = refl
+refused Information = refl
+refused Ied = refl
+refused Id = refl
+refused Edc = refl
+refused RunEnded = refl
+refused RunUnfinished = refl
+refused BadRecord = refl
+refused Sequence = refl
+refused Mark = refl
+refused NotTried = refl
+refused OtherDsv = refl
+refused Stretches = refl
+
+-- ---- the first frame that fails: it fails, and the frames before it pass, all where there is none
 
 module _ (ys : List ℕ) where
-  pub first_failing_fails : (k n : ℕ) → first_failing ys k n < k + n → frame_fault ys (first_failing ys k n) ≢ 0
+  pub first_failing_fails : (k n j : ℕ) → first_failing ys k n ≡ Some j → frame_fault ys j ≢ 0
   unfolding first_failing
-  first_failing_fails k zero h = absurd (omega arith)
-  first_failing_fails k (suc n) h = go (eqb (frame_fault ys k) 0) refl (λ l. first_failing_fails (suc k) n l) h
+  first_failing_fails k zero j h = cc
+  first_failing_fails k (suc n) j h = go (eqb (frame_fault ys k) 0) refl (first_failing_fails (suc k) n j) h
     where
       go :
-          (b : Bool) → eqb (frame_fault ys k) 0 ≡ b → (first_failing ys (suc k) n < suc k + n → frame_fault ys (first_failing ys (suc k) n) ≢ 0)
-          → cond b (first_failing ys (suc k) n) k < k + suc n → frame_fault ys (cond b (first_failing ys (suc k) n) k) ≢ 0
-      go true q later l = later (omega (arith, l))
-      go false q later l = eqb-false (frame_fault ys k) 0 q
+          (b : Bool) → eqb (frame_fault ys k) 0 ≡ b → (first_failing ys (suc k) n ≡ Some j → frame_fault ys j ≢ 0)
+          → cond b (first_failing ys (suc k) n) (Some k) ≡ Some j → frame_fault ys j ≢ 0
+      go true q later l = later l
+      go false q later l = let e : k ≡ j = cc in rw (sym e) (eqb-false (frame_fault ys k) 0 q)
 
-  pub before_first_failing_passes : (k n j : ℕ) → k ≤ j → j < first_failing ys k n → frame_fault ys j ≡ 0
+  pub before_first_failing_passes : (k n i j : ℕ) → first_failing ys k n ≡ Some i → k ≤ j → j < i → frame_fault ys j ≡ 0
   unfolding first_failing
-  before_first_failing_passes k zero j h l = absurd (omega arith)
-  before_first_failing_passes k (suc n) j h l = go (eqb (frame_fault ys k) 0) refl (λ m. before_first_failing_passes (suc k) n j m) l
+  before_first_failing_passes k zero i j f h l = cc
+  before_first_failing_passes k (suc n) i j f h l = go (eqb (frame_fault ys k) 0) refl (before_first_failing_passes (suc k) n i j) f
     where
       go :
-          (b : Bool) → eqb (frame_fault ys k) 0 ≡ b → (suc k ≤ j → j < first_failing ys (suc k) n → frame_fault ys j ≡ 0)
-          → j < cond b (first_failing ys (suc k) n) k → frame_fault ys j ≡ 0
-      go true q later m = dite (ℕ_discrete j k) (λ e. ap (frame_fault ys) e ∙ eqb-true (frame_fault ys k) 0 q) (λ e. later (omega (arith, h, e)) m)
-      go false q later m = absurd (omega (arith, h, m))
+          (b : Bool) → eqb (frame_fault ys k) 0 ≡ b → (first_failing ys (suc k) n ≡ Some i → suc k ≤ j → j < i → frame_fault ys j ≡ 0)
+          → cond b (first_failing ys (suc k) n) (Some k) ≡ Some i → frame_fault ys j ≡ 0
+      go true q later m = dite (ℕ_discrete j k) (λ e. ap (frame_fault ys) e ∙ eqb-true (frame_fault ys k) 0 q) (λ e. later m (omega (arith, h, e)) l)
+      go false q later m = let e : k ≡ i = cc in absurd (omega (arith, h, l, e))
+
+  pub none_failing_passes : (k n j : ℕ) → first_failing ys k n ≡ None → k ≤ j → j < k + n → frame_fault ys j ≡ 0
+  unfolding first_failing
+  none_failing_passes k zero j f h l = absurd (omega arith)
+  none_failing_passes k (suc n) j f h l = go (eqb (frame_fault ys k) 0) refl (none_failing_passes (suc k) n j) f
+    where
+      go :
+          (b : Bool) → eqb (frame_fault ys k) 0 ≡ b → (first_failing ys (suc k) n ≡ None → suc k ≤ j → j < suc k + n → frame_fault ys j ≡ 0)
+          → cond b (first_failing ys (suc k) n) (Some k) ≡ None → frame_fault ys j ≡ 0
+      go true q later m = dite (ℕ_discrete j k) (λ e. ap (frame_fault ys) e ∙ eqb-true (frame_fault ys k) 0 q) (λ e. later m (omega (arith, h, e)) (omega (arith, l)))
+      go false q later m = cc
 
 -- ---- number and frame of the answer
 
--- the number of a frame, or of none
-abbrev fault_at : List ℕ → ℕ → ℕ
-fault_at ys k = cond (ltb k no_frame) (frame_fault ys k) 0
-
--- the judgement of the n frames from frame k on, which are the last of the sixteen
-module _ (ys : List ℕ) (a : Repaired) where
-  judged_frame : repair_frame a ≡ no_frame → (k n : ℕ) → k + n ≡ 16 → repair_frame (judged ys k n a) ≡ first_failing ys k n
+-- the judgement of the n frames from frame k on
+module _ (ys : List ℕ) (r : Repair) where
+  judged_frame : (k n : ℕ) → block_answer_frame (judged ys k n (Ok r)) ≡ first_failing ys k n
   unfolding judged first_failing
-  judged_frame p k zero e = p ∙ omega (arith, e)
-  judged_frame p k (suc n) e = go (eqb (frame_fault ys k) 0) (judged_frame p (suc k) n (omega (arith, e)))
+  judged_frame k zero = refl
+  judged_frame k (suc n) = go (frame_answer ys k) (frame_number ys k) (judged_frame (suc k) n)
     where
       go :
-          (b : Bool) → repair_frame (judged ys (suc k) n a) ≡ first_failing ys (suc k) n
-          → repair_frame (cond b (judged ys (suc k) n a) (FrameRefused (frame_fault ys k) k)) ≡ cond b (first_failing ys (suc k) n) k
-      go true h = h
-      go false h = refl
+          (a : Result ⊤ Refusal) → answer_number a ≡ frame_fault ys k → block_answer_frame (judged ys (suc k) n (Ok r)) ≡ first_failing ys (suc k) n
+          → block_answer_frame (in_order a k (judged ys (suc k) n (Ok r))) ≡ cond (eqb (frame_fault ys k) 0) (first_failing ys (suc k) n) (Some k)
+      go (Ok u) e h = rw (sym e) h
+      go (Err x) e h = rw (sym e, refused x)
 
-  judged-number : repair_number a ≡ 0 → (k n : ℕ) → k + n ≡ 16 → repair_number (judged ys k n a) ≡ fault_at ys (first_failing ys k n)
+  judged_number : (k n : ℕ) → block_answer_number (judged ys k n (Ok r)) ≡ fault_at ys (first_failing ys k n)
   unfolding judged first_failing
-  judged-number p k zero e =
-      let z : k ≡ 16 = omega (arith, e) in
-      p ∙ sym (ap (fault_at ys) z)
-  judged-number p k (suc n) e = go (eqb (frame_fault ys k) 0) (judged-number p (suc k) n (omega (arith, e)))
+  judged_number k zero = refl
+  judged_number k (suc n) = go (frame_answer ys k) (frame_number ys k) (judged_number (suc k) n)
     where
       go :
-          (b : Bool) → repair_number (judged ys (suc k) n a) ≡ fault_at ys (first_failing ys (suc k) n)
-          → repair_number (cond b (judged ys (suc k) n a) (FrameRefused (frame_fault ys k) k)) ≡ fault_at ys (cond b (first_failing ys (suc k) n) k)
-      go true h = h
-      go false h = sym (ap (λ (t : Bool). cond t (frame_fault ys k) 0) (lt-ltb k 16 (omega (arith, e))))
+          (a : Result ⊤ Refusal) → answer_number a ≡ frame_fault ys k → block_answer_number (judged ys (suc k) n (Ok r)) ≡ fault_at ys (first_failing ys (suc k) n)
+          → block_answer_number (in_order a k (judged ys (suc k) n (Ok r))) ≡ fault_at ys (cond (eqb (frame_fault ys k) 0) (first_failing ys (suc k) n) (Some k))
+      go (Ok u) e h = rw (sym e) h
+      go (Err x) e h = e ∙ sym (ap (λ (t : Bool). fault_at ys (cond t (first_failing ys (suc k) n) (Some k))) (sym (ap (λ (m : ℕ). eqb m 0) e) ∙ refused x))
 
 module _ (xs ms : List ℕ) (n : ℕ) where
-  abbrev passed : Repaired
-  passed = Block (number_of (frame_of (repaired xs ms) 0)) (tallies_of xs ms)
+  abbrev whole : Result Repair BlockRefusal
+  whole = Ok (repair_of (repaired xs ms) (tallies_of xs ms))
 
-  pub repair_frame_lem : repair_frame (repair_answer xs ms n) ≡ refused_frame xs ms n
+  pub repair_frame_lem : block_answer_frame (repair_answer xs ms n) ≡ refused_frame xs ms n
   unfolding repair_answer refused_frame input_fits
   repair_frame_lem = go (lengths_fit xs ms n) (marks_fit ms)
     where
       go :
           (b c : Bool)
-          → repair_frame (cond b (cond c (judged (repaired xs ms) 0 16 passed) ErasureRefused) LengthRefused) ≡ cond (b && c) (first_failing (repaired xs ms) 0 16) no_frame
-      go true true = judged_frame (repaired xs ms) passed refl 0 16 refl
+          → block_answer_frame (cond b (cond c (judged (repaired xs ms) 0 16 whole) (Err (of_block Mark))) (Err (of_block Length))) ≡ cond (b && c) (first_failing (repaired xs ms) 0 16) None
+      go true true = judged_frame (repaired xs ms) _ 0 16
       go true false = refl
       go false c = refl
 
-  pub repair_number_lem : repair_number (repair_answer xs ms n) ≡ repair_refusal xs ms n
+  pub repair_number_lem : block_answer_number (repair_answer xs ms n) ≡ repair_refusal xs ms n
   unfolding repair_answer repair_refusal refused_frame input_fits
   repair_number_lem = go (lengths_fit xs ms n) (marks_fit ms)
     where
       go :
           (b c : Bool)
-          → repair_number (cond b (cond c (judged (repaired xs ms) 0 16 passed) ErasureRefused) LengthRefused)
-          ≡ cond b (cond c (fault_at (repaired xs ms) (cond (b && c) (first_failing (repaired xs ms) 0 16) no_frame)) 11) 1
-      go true true = judged-number (repaired xs ms) passed refl 0 16 refl
+          → block_answer_number (cond b (cond c (judged (repaired xs ms) 0 16 whole) (Err (of_block Mark))) (Err (of_block Length)))
+          ≡ cond b (cond c (fault_at (repaired xs ms) (cond (b && c) (first_failing (repaired xs ms) 0 16) None)) 11) 1
+      go true true = judged_number (repaired xs ms) _ 0 16
       go true false = refl
       go false c = refl
 

@@ -16,16 +16,18 @@ use Rattle.codes.specs.Nearest.{nearest, outcome_of}
 use Rattle.codes.specs.Erasures.{is_erased, nearest_erased, outcome_erased}
 use Rattle.codes.specs.declared.Outcome.{Outcome}
 use Rattle.codes.proofs.Erasures.{nearest-unmarked, outcome_unmarked}
-use Rattle.dataframe.specs.Checks.{number_of, main_of_block}
-use Rattle.layout.specs.Rows.{row_of, column_of, frame_of}
+use Rattle.std.specs.Prelude.{Result, Ok, Err, is_ok}
+use Rattle.refusals.specs.declared.Refusal.TheVariants.{Length, Mark}
+use Rattle.dataframe.specs.Checks.{main_of_block}
+use Rattle.layout.specs.Rows.{row_of, column_of}
 use Rattle.layout.specs.Lengths.{main_size, block_size, sector_count, row_count, row_size, column_count}
 use Rattle.layout.proofs.Places.{row_length, row_bytes, row_byte}
 use Rattle.repairer.specs.Repair.{rows_repaired, columns_repaired, repaired, is_corrected, is_uncorrectable, tally_of, tallies_of}
-use Rattle.repairer.specs.Answer.{judged, lengths_fit, marks_fit, input_fits, repair_answer, hands_out, block_after, main_after}
+use Rattle.repairer.specs.Answer.{judged, lengths_fit, marks_fit, input_fits, of_block, repair_of, repair_answer, block_after, main_after}
 use Rattle.repairer.specs.declared.Tally.{Tally}
 use Rattle.repairer.specs.declared.Tallies.{Tallies}
-use Rattle.repairer.specs.declared.Repaired.{Repaired}
-use Rattle.repairer.specs.declared.Repaired.TheVariants.{Block, ErasureRefused, LengthRefused}
+use Rattle.repairer.specs.declared.Repair.{Repair}
+use Rattle.repairer.specs.declared.BlockRefusal.{BlockRefusal}
 use Rattle.repairer.proofs.Marks.{marks_fit_all}
 
 -- ---- the repairer of document 01
@@ -45,15 +47,15 @@ tallies_within_five xs = record {
 abbrev pub both_fit : List ℕ → ℕ → Bool
 both_fit xs n = eqb (length xs) block_size && eqb n main_size
 
-abbrev pub answer_within_five : List ℕ → ℕ → Repaired
+abbrev pub answer_within_five : List ℕ → ℕ → Result Repair BlockRefusal
 answer_within_five xs n =
-    cond (both_fit xs n) (judged (repaired_within_five xs) 0 sector_count (Block (number_of (frame_of (repaired_within_five xs) 0)) (tallies_within_five xs))) LengthRefused
+    cond (both_fit xs n) (judged (repaired_within_five xs) 0 sector_count (Ok (repair_of (repaired_within_five xs) (tallies_within_five xs)))) (Err (of_block Length))
 
 abbrev pub block_within_five : List ℕ → ℕ → List ℕ
 block_within_five xs n = cond (both_fit xs n) (repaired_within_five xs) xs
 
 abbrev pub main_within_five : List ℕ → List ℕ → List ℕ
-main_within_five xs old = cond (hands_out (answer_within_five xs (length old))) (main_of_block (repaired_within_five xs)) old
+main_within_five xs old = cond (is_ok (answer_within_five xs (length old))) (main_of_block (repaired_within_five xs)) old
 
 tally_same : (o p : ℕ → Outcome) (n : ℕ) → ((i : ℕ) → i < n → o i ≡ p i) → tally_of o n ≡ tally_of p n
 unfolding tally_of
@@ -100,15 +102,15 @@ module _ (xs ms : List ℕ) (small : (i : ℕ) → get_or xs i 0 < 256) (sized :
   pub answer_unmarked : (n : ℕ) → repair_answer xs ms n ≡ answer_within_five xs n
   unfolding repair_answer
   answer_unmarked n =
-      ap₂ (λ (t u : Bool). cond t (cond u (judged (repaired xs ms) 0 16 (Block (number_of (frame_of (repaired xs ms) 0)) (tallies_of xs ms))) ErasureRefused) LengthRefused) (lengths_fit_lem n) marks_fit_lem
+      ap₂ (λ (t u : Bool). cond t (cond u (judged (repaired xs ms) 0 16 (Ok (repair_of (repaired xs ms) (tallies_of xs ms)))) (Err (of_block Mark))) (Err (of_block Length))) (lengths_fit_lem n) marks_fit_lem
       ∙ go (eqb (length xs) block_size) refl (eqb n main_size)
     where
       go : (a : Bool) → eqb (length xs) block_size ≡ a → (b : Bool)
-          → cond (a && b) (judged (repaired xs ms) 0 16 (Block (number_of (frame_of (repaired xs ms) 0)) (tallies_of xs ms))) LengthRefused
-          ≡ cond (a && b) (judged (repaired_within_five xs) 0 16 (Block (number_of (frame_of (repaired_within_five xs) 0)) (tallies_within_five xs))) LengthRefused
+          → cond (a && b) (judged (repaired xs ms) 0 16 (Ok (repair_of (repaired xs ms) (tallies_of xs ms)))) (Err (of_block Length))
+          ≡ cond (a && b) (judged (repaired_within_five xs) 0 16 (Ok (repair_of (repaired_within_five xs) (tallies_within_five xs)))) (Err (of_block Length))
       go true e b =
           let whole : length xs ≡ block_size = eqb-true (length xs) block_size e in
-          ap₂ (λ (ys : List ℕ) (t : Tallies). cond b (judged ys 0 16 (Block (number_of (frame_of ys 0)) t)) LengthRefused) (repaired-unmarked whole) (tallies_unmarked whole)
+          ap₂ (λ (ys : List ℕ) (t : Tallies). cond b (judged ys 0 16 (Ok (repair_of ys t))) (Err (of_block Length))) (repaired-unmarked whole) (tallies_unmarked whole)
       go false e b = refl
 
   -- and the buffers after the call
@@ -125,12 +127,12 @@ module _ (xs ms : List ℕ) (small : (i : ℕ) → get_or xs i 0 < 256) (sized :
   pub main_unmarked : (old : List ℕ) → main_after xs ms old ≡ main_within_five xs old
   unfolding main_after
   main_unmarked old =
-      ap (λ (r : Repaired). cond (hands_out r) (main_of_block (repaired xs ms)) old) (answer_unmarked (length old)) ∙ go (eqb (length xs) block_size) refl (eqb (length old) main_size)
+      ap (λ (r : Result Repair BlockRefusal). cond (is_ok r) (main_of_block (repaired xs ms)) old) (answer_unmarked (length old)) ∙ go (eqb (length xs) block_size) refl (eqb (length old) main_size)
     where
       go : (a : Bool) → eqb (length xs) block_size ≡ a → (b : Bool)
-          → let r = cond (a && b) (judged (repaired_within_five xs) 0 16 (Block (number_of (frame_of (repaired_within_five xs) 0)) (tallies_within_five xs))) LengthRefused in
-          cond (hands_out r) (main_of_block (repaired xs ms)) old ≡ cond (hands_out r) (main_of_block (repaired_within_five xs)) old
+          → let r = cond (a && b) (judged (repaired_within_five xs) 0 16 (Ok (repair_of (repaired_within_five xs) (tallies_within_five xs)))) (Err (of_block Length)) in
+          cond (is_ok r) (main_of_block (repaired xs ms)) old ≡ cond (is_ok r) (main_of_block (repaired_within_five xs)) old
       go true e b =
-          ap (λ (ys : List ℕ). cond (hands_out (cond b (judged (repaired_within_five xs) 0 16 (Block (number_of (frame_of (repaired_within_five xs) 0)) (tallies_within_five xs))) LengthRefused)) (main_of_block ys) old)
+          ap (λ (ys : List ℕ). cond (is_ok (cond b (judged (repaired_within_five xs) 0 16 (Ok (repair_of (repaired_within_five xs) (tallies_within_five xs)))) (Err (of_block Length)))) (main_of_block ys) old)
           (repaired-unmarked (eqb-true (length xs) block_size e))
       go false e b = refl

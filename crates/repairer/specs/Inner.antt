@@ -1,21 +1,25 @@
 -- The vocabulary of the inner contracts: the words of a block along an axis, and one word more of a tally. The repairer's own contract cites none of it,
 -- and nobody needs to believe it.
 -- Assumes nothing.
-use Rattle.std.specs.Prelude.{◌≡◌, List, ℕ, ◌+◌, ◌*◌, get_or, take}
+use Rattle.std.specs.Prelude.{◌≡◌, List, ℕ, ◌+◌, get_or, take}
 use Prim.{Unit}
 use Rattle.lists.specs.Count.{bit}
 use Rattle.codes.specs.Parity.{parity}
 use Rattle.codes.specs.Nearest.{nearest, outcome_of}
 use Rattle.codes.specs.Erasures.{nearest_erased, outcome_erased}
 use Rattle.codes.specs.declared.Outcome.{Outcome}
-use Rattle.multiples.specs.Inner.{high, low}
+use Rattle.division.specs.Inner.{packed}
+use Rattle.division.specs.declared.register.Remainder.{Remainder}
 use Rattle.layout.specs.Lengths.{data_rows, row_count, row_size, column_count, inner_size, outer_size}
 use Rattle.layout.specs.Rows.{row_of, column_of}
 use Rattle.layout.specs.Inner.{row_place, column_place}
 use Rattle.repairer.specs.Repair.{rows_repaired, columns_repaired, is_corrected, is_uncorrectable}
 use Rattle.repairer.specs.declared.Tally.{Tally}
-use Rattle.repairer.specs.declared.words.Axis.{Axis}
-use Rattle.repairer.specs.declared.words.Axis.TheVariants.{Rows, Columns}
+
+-- the 208 rows in recording order, or columns 0 to 171 in the order before the rows were moved
+pub data Axis : Type 0 where
+  Rows : Axis
+  Columns : Axis
 
 -- the roots of a word along an axis
 abbrev pub roots_of : Axis → ℕ
@@ -55,12 +59,11 @@ repaired_along Rows ms xs = rows_repaired xs ms
 repaired_along Columns ms xs = columns_repaired xs
 
 -- register j holds what the first 192 bytes of column j leave
-pub record ColumnDivided (xs regs : List ℕ) (j : ℕ) : Type 0 where
-  pub first : get_or regs (2 * j) 0 ≡ high (parity outer_size (take data_rows (column_of xs j)))
-  pub second : get_or regs (2 * j + 1) 0 ≡ low (parity outer_size (take data_rows (column_of xs j)))
+pub record ColumnDivided (xs : List ℕ) (regs : List Remainder) (j : ℕ) : Type 0 where
+  pub register : (r : Remainder) → get_or regs j r ≡ packed (parity outer_size (take data_rows (column_of xs j)))
 
 -- what is known of word k before its turn: nothing of a row, and of a column its register
-abbrev pub Divided : Axis → List ℕ → List ℕ → ℕ → Type 0
+abbrev pub Divided : Axis → List ℕ → List Remainder → ℕ → Type 0
 Divided Rows xs regs k = Unit {0}
 Divided Columns xs regs k = ColumnDivided xs regs k
 

@@ -1,73 +1,72 @@
 // A row of a block: its sums at the roots, and in its place the one code row that differs from it in e unmarked bytes, where
 // 2e and its marks are at most ten.
-ghost use Rattle.std.specs.Prelude.{◌≡◌, ◌<◌, length};
+ghost use Rattle.std.specs.Prelude.{◌≡◌, ◌<◌, []};
 ghost use Rattle.lists.specs.Fill.{tabulate};
-ghost use Rattle.field.specs.Inner.{LogTable};
 ghost use Rattle.codes.specs.Word.{syndrome};
-ghost use Rattle.codes.specs.Erasures.{nearest_erased, outcome_erased};
-ghost use Rattle.multiples.specs.Inner.{multiples};
-ghost use Rattle.octets.specs.Inner.{Stored};
-ghost use Rattle.layout.specs.Lengths.{block_size, row_count, row_size, inner_size};
+ghost use Rattle.layout.specs.Lengths.{row_count, inner_size};
 ghost use Rattle.layout.specs.Rows.{row_of};
-ghost use Rattle.layout.specs.Inner.{row_place};
+ghost use Rattle.repairer.specs.Inner.{Rows as AlongRows};
 
+use crate::words::Words;
 use codes::Outcome;
-use layout::{INNER_SIZE, ROW_SIZE};
+use field::Logs;
+use layout::{BLOCK_SIZE, INNER_SIZE, ROW_COUNT, ROW_SIZE};
+use multiples::Multiples;
 use reedsolomon::Row;
 
-// The ten syndromes of row q: its sums at the roots (document 01), by what the generator leaves of it.
-fn row_syndromes(logs: &[u8; 768], table: &[u64; 512], q: usize, block: &[u8]) -> [u8; INNER_SIZE]
-    requires { LogTable logs.now
-        × (table.now ≡ multiples inner_size)
-        × (length block.now ≡ block_size)
-        × (q < row_count) }
-    ensures { result ≡ tabulate (syndrome (row_of block.now q)) inner_size }
-{
-    let at = q * ROW_SIZE;
-    let end = at + ROW_SIZE;
-    let left = division::remainder_of(table, &block[at..end], INNER_SIZE);
-    reedsolomon::syndromes10(logs, left)
+#[derive(Clone, Copy)]
+pub(crate) struct Rows<'a> {
+    pub logs: &'a Logs,
+    pub table: &'a Multiples<10>,
 }
 
-// Row q repaired in its place, and what became of it. Its sums and its marks decide: a code row with at most ten marks stays,
-// and need not be taken out. Any other goes into the repair by value and its tally comes back with it (document 01).
-pub(crate) fn repair_row(
-    logs: &[u8; 768],
-    table: &[u64; 512],
-    erasures: &[u8],
-    q: usize,
-    block: &mut [u8],
-) -> Outcome
-    requires { LogTable logs.now
-        × (table.now ≡ multiples inner_size)
-        × (length erasures.now ≡ block_size)
-        × (length block.old ≡ block_size)
-        × (q < row_count) }
-    ensures value { result
-        ≡ outcome_erased inner_size (row_of erasures.now q) (row_of block.old q) }
-    ensures stored { Stored (row_place q)
-        (nearest_erased inner_size (row_of erasures.now q) (row_of block.old q))
-        block.old block.new row_size }
-{
-    let syndromes = row_syndromes(logs, table, q, block);
-    let from = q * ROW_SIZE;
-    let to = from + ROW_SIZE;
-    let marked = reedsolomon::count_erasures(&erasures[from..to]);
-    if marked <= INNER_SIZE {
-        if reedsolomon::all_zero(&syndromes) {
+impl Rows<'_> {
+    // The ten syndromes of row q: its sums at the roots (document 01), by what the generator leaves of it.
+    fn syndromes(&self, q: usize, block: &[u8; BLOCK_SIZE]) -> [u8; INNER_SIZE]
+        requires { q < row_count }
+        ensures { result ≡ tabulate (syndrome (row_of block.now q)) inner_size }
+    {
+        let at = q * ROW_SIZE;
+        let end = at + ROW_SIZE;
+        reedsolomon::syndromes(
+            self.logs,
+            division::remainder_of(self.table, &block[at..end]),
+        )
+    }
+}
+
+// A row is divided in its turn. Its sums and its marks decide: a code row with at most ten marks stays, and need not be taken
+// out. Any other goes into the repair by value and its tally comes back with it (document 01).
+impl Words for Rows<'_> {
+    ghost axis = { AlongRows };
+
+    ghost registers = { λ _. [] };
+
+    fn count(&self) -> usize {
+        ROW_COUNT
+    }
+
+    fn repair(
+        &self,
+        erasures: &[u8; BLOCK_SIZE],
+        k: usize,
+        block: &mut [u8; BLOCK_SIZE],
+    ) -> Outcome {
+        let syndromes = self.syndromes(k, block);
+        let marks = layout::row_at(erasures, k);
+        if reedsolomon::count_erasures(&marks) <= INNER_SIZE && reedsolomon::all_zero(&syndromes) {
             return Outcome::Clean;
         }
+        let bytes = layout::row_at(block, k);
+        let outcome = Outcome::Clean;
+        let row = reedsolomon::correct_row_from(
+            self.logs,
+            self.table,
+            &marks,
+            syndromes,
+            Row { bytes, outcome },
+        );
+        octets::put(block, k * ROW_SIZE, &row.bytes);
+        row.outcome
     }
-    let bytes = layout::row_at(block, q);
-    let outcome = Outcome::Clean;
-    let row = reedsolomon::correct_row_from(
-        logs,
-        table,
-        &erasures[from..to],
-        syndromes,
-        Row { bytes, outcome },
-    );
-    let near = row.bytes;
-    octets::put(block, q * ROW_SIZE, &near);
-    row.outcome
 }

@@ -1,39 +1,18 @@
 // The bench sheet (document 01): a block's stream on standard input, one line on standard output.
 #![tactic(auto)]
 
-ghost use Rattle.std.specs.Prelude.{◌≡◌, length};
-ghost use Rattle.layout.specs.Lengths.{main_size, block_size};
-
-use layout::{BLOCK_SIZE, MAIN_SIZE};
+use layout::{BLOCK_SIZE, MAIN_SIZE, STREAM_SIZE};
 use std::io;
 
 // One byte more than a stream, so that a longer input shows.
-fn stream_room() -> [u8; 77381]
-    ensures { 77381 ≡ length result }
-{
-    [0; 77381]
-}
-
-fn block_room() -> [u8; BLOCK_SIZE]
-    ensures { block_size ≡ length result }
-{
-    [0; BLOCK_SIZE]
-}
-
-fn main_room() -> [u8; MAIN_SIZE]
-    ensures { main_size ≡ length result }
-{
-    [0; MAIN_SIZE]
-}
+const STREAM_ROOM: usize = STREAM_SIZE + 1;
 
 fn main(rt: HostRuntime) -> io::Result<()> {
-    let mut stream = stream_room();
-    let mut block = block_room();
-    let mut erasures = block_room();
-    let mut main = main_room();
-    let mut text = [0u8; 128];
+    let mut stream = [0; STREAM_ROOM];
+    let mut block = [0; BLOCK_SIZE];
+    let mut erasures = [0; BLOCK_SIZE];
+    let mut main = [0; MAIN_SIZE];
     let n = intake::read_full(&mut rt.reader(), &mut stream)?;
-    let r = blockreader::read_block(&stream[..n], &mut block, &mut erasures, &mut main);
-    let k = sheetline::sheet_line(r, &mut text);
-    rt.write_all(&text[..k])
+    let answer = blockreader::read_block(&stream[..n], &mut block, &mut erasures, &mut main);
+    rt.write_all(sheetline::sheet_line(answer).as_bytes())
 }

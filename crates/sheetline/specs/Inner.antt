@@ -1,9 +1,7 @@
--- Vocabulary of inner contracts: Text, a text put into a buffer and where it ends. No theorem and no contract of an entry point cites it.
+-- What is written of a line. No theorem cites it; the contract of an entry point says by it what a caller gets.
 -- Assumes nothing.
-use Rattle.std.specs.Prelude.{List, ◌≡◌, ℕ, ◌+◌, length}
-use Rattle.std.proofs.lemmas.List.Edits.{sets}
+use Rattle.std.specs.Prelude.{List, ℕ, take}
+use Rattle.sheetline.specs.declared.line.Line.{Line}
 
--- the text s is put into the buffer l from the place p on, up to the place n: the buffer is x now
-pub record Text (l : List ℕ) (p : ℕ) (s x : List ℕ) (n : ℕ) : Type 0 where
-  pub place : n ≡ p + length s
-  pub bytes : x ≡ sets l p s
+abbrev pub written : Line → List ℕ
+written line = take line.len line.bytes

@@ -1,19 +1,11 @@
 -- The line of the bench sheet as a list of bytes (document 01, 'The bench sheet'). The texts are in ASCII.
 -- Assumes nothing.
-use Rattle.std.specs.Prelude.{cond, List, [], ◌∷◌, ◌++◌, ℕ, zero, suc, ◌+◌, ◌/◌, ◌%◌, ltb}
+use Rattle.std.specs.Prelude.{cond, List, [], ◌∷◌, ◌++◌, ℕ, ◌+◌, ◌/◌, ◌%◌, ltb, decimal, Option, Some, None, Result, Ok, Err}
 use Rattle.repairer.specs.declared.Tally.{Tally}
 use Rattle.repairer.specs.declared.Tallies.{Tallies}
 use Rattle.blockreader.specs.declared.BlockRead.{BlockRead}
-use Rattle.blockreader.specs.declared.BlockRead.TheVariants.{Block, FrameRefused, ErasureRefused, LengthRefused}
-
--- a number in decimal without zeros in front: its last k digits, where it has more
-unfoldable pub last_digits : ℕ → ℕ → List ℕ
-last_digits zero n = []
-last_digits (suc k) n = cond (ltb n 10) ((48 + n) ∷ []) (last_digits k (n / 10) ++ ((48 + n % 10) ∷ []))
-
--- a number of 32 bits has ten digits at most
-abbrev pub decimal : ℕ → List ℕ
-decimal n = last_digits 10 n
+use Rattle.refusals.specs.Refusal.{refusal_number}
+use Rattle.repairer.specs.declared.BlockRefusal.{BlockRefusal}
 
 -- the last hexadecimal digit of a number, 0 to 9 and A to F
 abbrev pub hex_digit : ℕ → ℕ
@@ -74,8 +66,11 @@ sums_text unknown sync = (unknown_text ++ decimal unknown) ++ (sync_text ++ deci
 
 -- ---- the line of each answer of the whole-block reader
 
-unfoldable pub sheet_line : BlockRead → List ℕ
-sheet_line (Block first t unknown sync) = block_text ++ hex_six first ++ tallies_text t ++ sums_text unknown sync
-sheet_line (FrameRefused number frame) = (refused_text ++ decimal number) ++ (frame_text ++ decimal frame) ++ newline
-sheet_line ErasureRefused = refused_text ++ decimal 11 ++ newline
-sheet_line LengthRefused = refused_text ++ decimal 1 ++ newline
+-- the frame that a check fails in, where there is one
+abbrev pub frame_part : Option ℕ → List ℕ
+frame_part None = []
+frame_part (Some frame) = frame_text ++ decimal frame
+
+unfoldable pub sheet_line : Result BlockRead BlockRefusal → List ℕ
+sheet_line (Ok r) = block_text ++ hex_six r.first ++ tallies_text r.tallies ++ sums_text r.unknown r.sync
+sheet_line (Err e) = (refused_text ++ decimal (refusal_number e.refusal)) ++ frame_part e.frame ++ newline

@@ -39,6 +39,6 @@ unwrapped w (Ok next) = refl
 unwrapped w (Err refusal) = refl
 
 -- what a `?` passes on has the number of the refusal that it met
-pub numbered : (r : Result Record Refusal) (e : Refusal) → IsErrAnd r (λ y. y ≡ e) → answer_number r ≡ refusal_number e
+pub numbered : {T : Type 0} (r : Result T Refusal) (e : Refusal) → IsErrAnd r (λ y. y ≡ e) → answer_number r ≡ refusal_number e
 numbered (Ok next) e h = absurd h
 numbered (Err refusal) e h = ap refusal_number h

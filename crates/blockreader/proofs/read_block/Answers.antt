@@ -1,74 +1,31 @@
--- `read_block` meets its contract. Assumes nothing.
-use Rattle.blockreader.proofs.Answers.{stream-length, block_length, erasures-length, main_length, taken, clauses}
+-- `read_block` meets its contract: the number of a refusal, where the search stops. Assumes nothing.
+use mathlib.Core.Path.{◌≡◌}
+use mathlib.Core.Logic.{◌≢◌}
+use borrow.Author.Tests.{eq-eqb, ne_eqb}
+use lib.ListN.{length}
+use Rattle.std.proofs.Common.{rules}
+use Rattle.std.proofs.lemmas.Result.{err_from_is_err_and}
+use Rattle.refusals.specs.declared.Refusal.TheVariants.{Length}
+use Rattle.layout.specs.Lengths.{stream_size, block_size, main_size}
+use Rattle.blockreader.specs.BlockReader.{block_fits, block_read_refusal}
 use Rattle.blockreader.proofs.read_block.Goals as goal
 
-pub returns-then-stream-ne-STREAM_SIZE : goal.returns-then-stream-ne-STREAM_SIZE
-returns-then-stream-ne-STREAM_SIZE c =
-    let a = c.args in
-    let all = clauses (stream-length a.stream.now a.block.now a.erasures.now a.main.now c.if-stream-ne-STREAM_SIZE.true) in
-    record {
-      value = all.0;
-      result_value = all.1.0;
-      result_value_2 = all.1.1.0;
-      block_after = all.1.1.1.0;
-      erasures_after = all.1.1.1.1.0;
-      main_after = all.1.1.1.1.1;
-    }
+pub returns-in_err-block-clause-result_value : goal.returns-in_err-block-clause-result_value
+unfolding block_fits block_read_refusal
+returns-in_err-block-clause-result_value c =
+    let p = err_from_is_err_and c.from_residual-in_err-block.result c.from_residual-in_err-block.ensures.1 in
+    let refusal : c.in_err-block.field-0.0 ≡ Length = search rules in
+    let stream : length c.args.stream.now ≡ stream_size = search rules in
+    let block : length c.args.block.now ≢ block_size = search rules in
+    rw (p.1, p.2, refusal, eq-eqb _ stream_size stream, ne_eqb _ block_size block)
 
-pub returns-then-block-ne-BLOCK_SIZE : goal.returns-then-block-ne-BLOCK_SIZE
-returns-then-block-ne-BLOCK_SIZE c =
-    let a = c.args in
-    let all = clauses (block_length a.stream.now a.block.now a.erasures.now a.main.now c.if-stream-ne-STREAM_SIZE.false c.if-block-ne-BLOCK_SIZE.true) in
-    record {
-      value = all.0;
-      result_value = all.1.0;
-      result_value_2 = all.1.1.0;
-      block_after = all.1.1.1.0;
-      erasures_after = all.1.1.1.1.0;
-      main_after = all.1.1.1.1.1;
-    }
-
-pub returns-then-erasures-ne-BLOCK_SIZE : goal.returns-then-erasures-ne-BLOCK_SIZE
-returns-then-erasures-ne-BLOCK_SIZE c =
-    let a = c.args in
-    let all = clauses (erasures-length a.stream.now a.block.now a.erasures.now a.main.now c.if-stream-ne-STREAM_SIZE.false c.if-block-ne-BLOCK_SIZE.false c.if-erasures-ne-BLOCK_SIZE.true) in
-    record {
-      value = all.0;
-      result_value = all.1.0;
-      result_value_2 = all.1.1.0;
-      block_after = all.1.1.1.0;
-      erasures_after = all.1.1.1.1.0;
-      main_after = all.1.1.1.1.1;
-    }
-
-pub returns-then-main-ne-MAIN_SIZE : goal.returns-then-main-ne-MAIN_SIZE
-returns-then-main-ne-MAIN_SIZE c =
-    let a = c.args in
-    let all = clauses (main_length a.stream.now a.block.now a.erasures.now a.main.now c.if-stream-ne-STREAM_SIZE.false c.if-block-ne-BLOCK_SIZE.false c.if-erasures-ne-BLOCK_SIZE.false c.if-main-ne-MAIN_SIZE.true) in
-    record {
-      value = all.0;
-      result_value = all.1.0;
-      result_value_2 = all.1.1.0;
-      block_after = all.1.1.1.0;
-      erasures_after = all.1.1.1.1.0;
-      main_after = all.1.1.1.1.1;
-    }
-
-pub returns : goal.returns
-returns c =
-    let a = c.args in
-    let e = c.read_sectors-s.ensures in
-    let t = taken a.stream.now a.block.now a.erasures.now a.main.now
-    c.if-stream-ne-STREAM_SIZE.false c.if-block-ne-BLOCK_SIZE.false c.if-erasures-ne-BLOCK_SIZE.false c.if-main-ne-MAIN_SIZE.false
-    c.read_sectors-s.new.block c.read_sectors-s.new.erasures c.repair_block-r.new.block c.repair_block-r.new.main _ _
-    c.repair_block-r.result c.answer_of.result
-    e.0 e.1 e.2 e.3 c.repair_block-r.ensures.value c.repair_block-r.ensures.block_after c.repair_block-r.ensures.main_after c.answer_of.ensures in
-    let all = clauses t in
-    record {
-      value = all.0;
-      result_value = all.1.0;
-      result_value_2 = all.1.1.0;
-      block_after = all.1.1.1.0;
-      erasures_after = all.1.1.1.1.0;
-      main_after = all.1.1.1.1.1;
-    }
+pub returns-in_err-main-clause-result_value : goal.returns-in_err-main-clause-result_value
+unfolding block_fits block_read_refusal
+returns-in_err-main-clause-result_value c =
+    let p = err_from_is_err_and c.from_residual-in_err-main.result c.from_residual-in_err-main.ensures.1 in
+    let refusal : c.in_err-main.field-0.0 ≡ Length = search rules in
+    let stream : length c.args.stream.now ≡ stream_size = search rules in
+    let block : length c.args.block.now ≡ block_size = search rules in
+    let marks : length c.args.erasures.now ≡ block_size = search rules in
+    let main : length c.args.main.now ≢ main_size = search rules in
+    rw (p.1, p.2, refusal, eq-eqb _ stream_size stream, eq-eqb _ block_size block, eq-eqb _ block_size marks, ne_eqb _ main_size main)

@@ -1,114 +1,48 @@
--- `repair_block` meets its contract, case by case. Assumes nothing.
-use mathlib.Core.Path.{sym, ◌∙◌}
-use Rattle.repairer.specs.Answer.{lengths_fit}
-use Rattle.repairer.proofs.Answers.{length_refused, sizes, mark_refused, stages, frame_refused, handed_out}
+-- `repair_block` meets its contract, case by case: a buffer has another length, or the three go to `repair_sized`. Assumes nothing.
+use mathlib.Core.Path.{◌≡◌, ap, ◌∙◌}
+use lib.ListN.{length}
+use Rattle.std.specs.Prelude.{Result, Err}
+use Rattle.repairer.specs.Answer.{repair_answer, block_after, main_after}
+use Rattle.repairer.specs.declared.Repair.{Repair}
+use Rattle.repairer.specs.declared.BlockRefusal.{BlockRefusal}
+use Rattle.repairer.proofs.Answers.{meets, length_refused, block_unfit, marks_unfit, main_unfit}
 use Rattle.repairer.proofs.repair_block.Goals as goal
 
-pub returns-then-not-lengths_fit : goal.returns-then-not-lengths_fit
-unfolding lengths_fit
-returns-then-not-lengths_fit c =
+abbrev refused : BlockRefusal → Result Repair BlockRefusal
+refused e = Err e
+
+pub returns-in_default : goal.returns-in_default
+returns-in_default c =
     let a = c.args in
-    record {
-      value = (length_refused a.block.now a.erasures.now a.main.now _ c.lengths_fit.ensures c.if-not-lengths_fit.true).0;
-      result_value = (length_refused a.block.now a.erasures.now a.main.now _ c.lengths_fit.ensures c.if-not-lengths_fit.true).1.0;
-      result_value_2 = (length_refused a.block.now a.erasures.now a.main.now _ c.lengths_fit.ensures c.if-not-lengths_fit.true).1.1.0;
-      block_after = (length_refused a.block.now a.erasures.now a.main.now _ c.lengths_fit.ensures c.if-not-lengths_fit.true).1.1.1.0;
-      main_after = (length_refused a.block.now a.erasures.now a.main.now _ c.lengths_fit.ensures c.if-not-lengths_fit.true).1.1.1.1;
-    }
+    let done = length_refused a.block.now a.erasures.now a.main.now (block_unfit a.block.now a.erasures.now a.main.now c.in_default.ensures.cases) in
+    let met = meets a.block.now a.erasures.now a.main.now _ _ _ (ap refused c.into.ensures ∙ done.value) done.block done.main in
+    record { value = met.value; result_value = met.number; result_value_2 = met.frame; block_after = met.block; main_after = met.main }
 
-pub returns-then-not-marks_fit : goal.returns-then-not-marks_fit
-unfolding lengths_fit
-returns-then-not-marks_fit c =
-    let xs = c.args.block.now in
-    let ms = c.args.erasures.now in
-    let old = c.args.main.now in
-    record {
-      value = (mark_refused xs ms old _ c.lengths_fit.ensures c.if-not-lengths_fit.false _ c.marks_fit.ensures c.if-not-marks_fit.true).0;
-      result_value = (mark_refused xs ms old _ c.lengths_fit.ensures c.if-not-lengths_fit.false _ c.marks_fit.ensures c.if-not-marks_fit.true).1.0;
-      result_value_2 = (mark_refused xs ms old _ c.lengths_fit.ensures c.if-not-lengths_fit.false _ c.marks_fit.ensures c.if-not-marks_fit.true).1.1.0;
-      block_after = (mark_refused xs ms old _ c.lengths_fit.ensures c.if-not-lengths_fit.false _ c.marks_fit.ensures c.if-not-marks_fit.true).1.1.1.0;
-      main_after = (mark_refused xs ms old _ c.lengths_fit.ensures c.if-not-lengths_fit.false _ c.marks_fit.ensures c.if-not-marks_fit.true).1.1.1.1;
-    }
+pub returns-in_default-as_array : goal.returns-in_default-as_array
+returns-in_default-as_array c =
+    let a = c.args in
+    let block = c.in-Some.ensures.cases in
+    let done = length_refused a.block.now a.erasures.now a.main.now (marks_unfit a.block.now a.erasures.now a.main.now block.long c.in_default-as_array.ensures.cases) in
+    let met = meets a.block.now a.erasures.now a.main.now _ _ _ (ap refused c.into-in_default-as_array.ensures ∙ done.value) (block.same ∙ done.block) done.main in
+    record { value = met.value; result_value = met.number; result_value_2 = met.frame; block_after = met.block; main_after = met.main }
 
-pub repair_words-rows-requires : goal.repair_words-rows-requires
-unfolding lengths_fit
-repair_words-rows-requires c =
-    let xs = c.args.block.now in
-    let ms = c.args.erasures.now in
-    let old = c.args.main.now in
-    let size = sizes xs ms old _ c.lengths_fit.ensures c.if-not-lengths_fit.false in
-    (c.log_table-logs.ensures, c.multiples10-inner.ensures, size.1, size.0)
-
-pub repair_words-columns-requires : goal.repair_words-columns-requires
-unfolding lengths_fit
-repair_words-columns-requires c =
-    let xs = c.args.block.now in
-    let ms = c.args.erasures.now in
-    let old = c.args.main.now in
-    let size = sizes xs ms old _ c.lengths_fit.ensures c.if-not-lengths_fit.false in
-    (c.log_table-logs.ensures, c.multiples16-outer.ensures, size.1, c.repair_words-rows.auto.block ∙ size.0)
-
-pub judge_frames-answer-requires : goal.judge_frames-answer-requires
-unfolding lengths_fit
-judge_frames-answer-requires c =
-    let xs = c.args.block.now in
-    let ms = c.args.erasures.now in
-    let old = c.args.main.now in
-    let size = sizes xs ms old _ c.lengths_fit.ensures c.if-not-lengths_fit.false in
-    record {
-      log_table = c.log_table-logs.ensures;
-      block_len = c.repair_words-columns.auto.block ∙ c.repair_words-rows.auto.block ∙ size.0;
-    }
-
-pub returns-then-repair_number-ne0 : goal.returns-then-repair_number-ne0
-unfolding lengths_fit
-returns-then-repair_number-ne0 c =
-    let xs = c.args.block.now in
-    let ms = c.args.erasures.now in
-    let old = c.args.main.now in
-    let v = stages xs ms _ _ _ _ _ (c.repair_words-rows.ensures.value, c.repair_words-rows.ensures.block_after) (c.repair_words-columns.ensures.value, c.repair_words-columns.ensures.block_after) c.judge_frames-answer.ensures in
-    record {
-      value = (frame_refused xs ms old _ c.lengths_fit.ensures c.if-not-lengths_fit.false _ c.marks_fit.ensures c.if-not-marks_fit.false _ _ v
-          (λ e. c.if-repair_number-ne0.true (c.repair_number.ensures ∙ e))).0;
-      result_value = (frame_refused xs ms old _ c.lengths_fit.ensures c.if-not-lengths_fit.false _ c.marks_fit.ensures c.if-not-marks_fit.false _ _ v
-          (λ e. c.if-repair_number-ne0.true (c.repair_number.ensures ∙ e))).1.0;
-      result_value_2 = (frame_refused xs ms old _ c.lengths_fit.ensures c.if-not-lengths_fit.false _ c.marks_fit.ensures c.if-not-marks_fit.false _ _ v
-          (λ e. c.if-repair_number-ne0.true (c.repair_number.ensures ∙ e))).1.1.0;
-      block_after = (frame_refused xs ms old _ c.lengths_fit.ensures c.if-not-lengths_fit.false _ c.marks_fit.ensures c.if-not-marks_fit.false _ _ v
-          (λ e. c.if-repair_number-ne0.true (c.repair_number.ensures ∙ e))).1.1.1.0;
-      main_after = (frame_refused xs ms old _ c.lengths_fit.ensures c.if-not-lengths_fit.false _ c.marks_fit.ensures c.if-not-marks_fit.false _ _ v
-          (λ e. c.if-repair_number-ne0.true (c.repair_number.ensures ∙ e))).1.1.1.1;
-    }
-
-pub hand_out-requires : goal.hand_out-requires
-unfolding lengths_fit
-hand_out-requires c =
-    let xs = c.args.block.now in
-    let ms = c.args.erasures.now in
-    let old = c.args.main.now in
-    let size = sizes xs ms old _ c.lengths_fit.ensures c.if-not-lengths_fit.false in
-    record {
-      block_len = c.repair_words-columns.auto.block ∙ c.repair_words-rows.auto.block ∙ size.0;
-      main_len = size.2;
-    }
+pub returns-in_default-as_mut_array : goal.returns-in_default-as_mut_array
+returns-in_default-as_mut_array c =
+    let a = c.args in
+    let block = c.in-Some.ensures.cases in
+    let erasures = c.in-Some-as_array.ensures.cases in
+    let done = length_refused a.block.now a.erasures.now a.main.now (main_unfit a.block.now a.erasures.now a.main.now block.long erasures.long c.in_default-as_mut_array.ensures.cases) in
+    let met = meets a.block.now a.erasures.now a.main.now _ _ _ (ap refused c.into-in_default-as_mut_array.ensures ∙ done.value) (block.same ∙ done.block) done.main in
+    record { value = met.value; result_value = met.number; result_value_2 = met.frame; block_after = met.block; main_after = met.main }
 
 pub returns : goal.returns
-unfolding lengths_fit
 returns c =
-    let xs = c.args.block.now in
-    let ms = c.args.erasures.now in
-    let old = c.args.main.now in
-    let v = stages xs ms _ _ _ _ _ (c.repair_words-rows.ensures.value, c.repair_words-rows.ensures.block_after) (c.repair_words-columns.ensures.value, c.repair_words-columns.ensures.block_after) c.judge_frames-answer.ensures in
-    let none = sym c.repair_number.ensures ∙ c.if-repair_number-ne0.false in
-    record {
-      value = (handed_out xs ms old _ c.lengths_fit.ensures c.if-not-lengths_fit.false _ c.marks_fit.ensures c.if-not-marks_fit.false _ _ v _ none
-          c.hand_out.ensures).0;
-      result_value = (handed_out xs ms old _ c.lengths_fit.ensures c.if-not-lengths_fit.false _ c.marks_fit.ensures c.if-not-marks_fit.false _ _ v _ none
-          c.hand_out.ensures).1.0;
-      result_value_2 = (handed_out xs ms old _ c.lengths_fit.ensures c.if-not-lengths_fit.false _ c.marks_fit.ensures c.if-not-marks_fit.false _ _ v _ none
-          c.hand_out.ensures).1.1.0;
-      block_after = (handed_out xs ms old _ c.lengths_fit.ensures c.if-not-lengths_fit.false _ c.marks_fit.ensures c.if-not-marks_fit.false _ _ v _ none
-          c.hand_out.ensures).1.1.1.0;
-      main_after = (handed_out xs ms old _ c.lengths_fit.ensures c.if-not-lengths_fit.false _ c.marks_fit.ensures c.if-not-marks_fit.false _ _ v _ none
-          c.hand_out.ensures).1.1.1.1;
-    }
+    let a = c.args in
+    let block : c.in-Some.block.now ≡ a.block.now = c.in-Some.ensures.cases.same in
+    let erasures : c.in-Some-as_array.erasures.now ≡ a.erasures.now = c.in-Some-as_array.ensures.cases.same in
+    let main : c.in-Some-as_mut_array.main.now ≡ a.main.now = c.in-Some-as_mut_array.ensures.cases.same in
+    let value : c.repair_sized.result ≡ repair_answer a.block.now a.erasures.now (length a.main.now) = cc in
+    let left : c.repair_sized.new.block ≡ block_after a.block.now a.erasures.now (length a.main.now) = cc in
+    let given : c.repair_sized.new.main ≡ main_after a.block.now a.erasures.now a.main.now = cc in
+    let met = meets a.block.now a.erasures.now a.main.now _ _ _ value left given in
+    record { value = met.value; result_value = met.number; result_value_2 = met.frame; block_after = met.block; main_after = met.main }

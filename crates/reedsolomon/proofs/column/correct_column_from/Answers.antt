@@ -4,18 +4,11 @@ use mathlib.Core.List.{List}
 use mathlib.Core.Logic.{inr}
 use Prim.Native.Nat.{ℕ, ◌-◌, ◌/◌}
 use native.Mathlib.Omega.{arith}
-use lib.ListN.{length, get_or, replicate, length-replicate}
-use mir.Val.{Fits}
-use mir.Syntax.{w8}
+use lib.ListN.{length, replicate, length-replicate}
 use borrow.Author.Rules.{rules}
-use Rattle.lists.specs.Bytes.{Bytes}
-use Rattle.lists.proofs.Bytes.{bytes_of}
 use Rattle.layout.specs.Lengths.{row_count}
-use Rattle.reedsolomon.proofs.Repair.{column_shape, word_clean, zeros-count, unmarked-repaired}
+use Rattle.reedsolomon.proofs.Repair.{word_bytes, column_shape, word_clean, zeros-count, unmarked-repaired}
 use Rattle.reedsolomon.proofs.column.correct_column_from.Goals as goal
-
-bytes : (w : List ℕ) → ((i : ℕ) → Fits w8 (get_or w i 0)) → Bytes w
-bytes w fits = bytes_of w (λ i l. let f = fits i in omega (arith, f.fits))
 
 -- no byte is marked
 abbrev unmarked : List ℕ
@@ -26,8 +19,8 @@ unmarked-length = length-replicate {A = ℕ} row_count 0
 
 pub returns-then-all_zero : goal.returns-then-all_zero
 returns-then-all_zero c =
-    let all = unmarked-repaired row_count 8 c.args.column.bytes _ _ (bytes c.args.column.bytes (λ i. search rules))
-    (word_clean column_shape c.args.column.bytes (search rules) (bytes c.args.column.bytes (λ i. search rules)) unmarked (unmarked-length) 0 (zeros-count row_count) (omega arith)
+    let all = unmarked-repaired row_count 8 c.args.column.bytes _ _ (word_bytes c.args.column.bytes (λ i. search rules))
+    (word_clean column_shape c.args.column.bytes (search rules) (word_bytes c.args.column.bytes (λ i. search rules)) unmarked (unmarked-length) 0 (zeros-count row_count) (omega arith)
     _ c.requires _ c.all_zero.ensures c.if-all_zero.true) in
     record { bytes_value = all.0; outcome_value = all.1 }
 
@@ -49,5 +42,5 @@ correct_located-requires c =
 
 pub returns : goal.returns
 returns c =
-    let all = unmarked-repaired row_count 8 c.args.column.bytes _ _ (bytes c.args.column.bytes (λ i. search rules)) (c.correct_located.ensures.bytes_value, c.correct_located.ensures.outcome_value) in
+    let all = unmarked-repaired row_count 8 c.args.column.bytes _ _ (word_bytes c.args.column.bytes (λ i. search rules)) (c.correct_located.ensures.bytes_value, c.correct_located.ensures.outcome_value) in
     record { bytes_value = all.0; outcome_value = all.1 }

@@ -30,7 +30,7 @@ loop-i-preserved c =
             λ j.
                 ap (λ (n : ℕ). without_marked (erased_place m) n (at c.if-mark-eq1.syndromes) j) last
                 ∙ marked_take (erased_place m) k (omega arith) (at c.loop-i.syndromes) here (at c.if-mark-eq1.syndromes)
-                (λ i. without_at _ c.loop-i.syndromes c.if-mark-eq1.syndromes taken i ∙ ap (λ (x : ℕ). without x (at c.loop-i.syndromes) i) (marked.alpha_power.ensures ∙ ap (pow 2) (omega arith))) j ∙ c.loop-i.invariant.1 j,
+                (λ i. without_at _ c.loop-i.syndromes c.if-mark-eq1.syndromes taken i ∙ ap (λ (x : ℕ). without x (at c.loop-i.syndromes) i) (marked.alpha_power-x.ensures ∙ ap (pow 2) (omega arith))) j ∙ c.loop-i.invariant.1 j,
           )
       | else-mark-eq1 other ↦
           let here : erased_place m (k - 1) ≡ false = ap (is_erased m) place ∙ ne_eqb (get_or m i 0) 1 other.if-mark-eq1.false in (

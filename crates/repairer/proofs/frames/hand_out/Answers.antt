@@ -3,33 +3,18 @@ use mathlib.Core.Path.{◌≡◌, ap, ◌∙◌}
 use native.Mathlib.Omega.{arith}
 use lib.ListN.{length}
 use borrow.Author.Rules.{rules}
-use Rattle.lists.proofs.Fill.{upto_none}
 use Rattle.dataframe.specs.Checks.{unscrambled}
-use Rattle.repairer.proofs.FrameLaws.{part_length, main_more, main_all}
+use Rattle.repairer.proofs.FrameLaws.{main_more, main_all}
 use Rattle.repairer.proofs.frames.hand_out.Goals as goal
-
-pub loop-k-init : goal.loop-k-init
-loop-k-init c = (omega arith, upto_none _ _)
-
-pub put-requires : goal.put-requires
-put-requires c =
-    let f = c.unscramble-frame.result in
-    let size : length f ≡ 2064 = search rules in
-    omega (arith, part_length f size, c.loop-k.invariant.1.same, c.requires.main_len)
 
 pub loop-k-preserved : goal.loop-k-preserved
 loop-k-preserved c =
     let f = c.unscramble-frame.result in
     let e = c.unscramble-frame.ensures ∙ ap unscrambled c.frame_at.ensures in
-    let size : length f ≡ 2064 = search rules in (
-      omega arith,
-      main_more c.args.block.now c.args.main.now c.loop-k.main _ f c.loop-k.k e size (omega (arith, c.requires.main_len)) c.put.ensures c.loop-k.invariant.1,
-    )
-
-pub shape_of-main : goal.shape_of-main
-shape_of-main c = c.loop-k.invariant.1.same
+    let size : length f ≡ 2064 = search rules in
+    main_more c.args.block.now c.args.main.now c.loop-k.main _ f c.loop-k.k e size (omega (arith, c.told-main)) c.put.ensures c.loop-k.invariant
 
 pub returns : goal.returns
 returns c =
     let e : c.loop-k.k ≡ 16 = omega arith in
-    main_all c.args.block.now _ c.loop-k.main c.requires.main_len (rw e at c.loop-k.invariant.1)
+    main_all c.args.block.now _ c.loop-k.main c.told-main (rw e at c.loop-k.invariant)
