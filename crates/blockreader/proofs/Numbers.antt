@@ -52,6 +52,7 @@ never_eleven xs b e m =
     at_most : (ys : List ℕ) (frame : Option ℕ) → fault_at ys frame ≤ 6
     at_most ys None = omega arith
     at_most ys (Some k) = fault_small ys k
+
     go : (a b : Bool) (n : ℕ) → n ≤ 6 → cond a (cond b n 1) 1 ≤ 6
     go true true n l = l
     go true false n l = omega arith

@@ -69,9 +69,9 @@ fn read_and_repair(
 ) -> Result<BlockRead, BlockRefusal>
     ensures value { result
         ≡ with_sums
-            (repair_answer (read_block stream.now) (erasures_of_block stream.now) main_size)
-            (sector_sum unknown_tally stream.now 0 16)
-            (sector_sum sync_tally stream.now 0 16) }
+        (repair_answer (read_block stream.now) (erasures_of_block stream.now) main_size)
+        (sector_sum unknown_tally stream.now 0 16)
+        (sector_sum sync_tally stream.now 0 16) }
     ensures number { block_answer_number result
         ≡ repair_refusal (read_block stream.now) (erasures_of_block stream.now) main_size }
     ensures frame { block_answer_frame result
@@ -121,7 +121,9 @@ pub fn read_block(
 {
     let stream = stream.as_array::<STREAM_SIZE>().ok_or(Refusal::Length)?;
     let block = block.as_mut_array::<BLOCK_SIZE>().ok_or(Refusal::Length)?;
-    let marks = erasures.as_mut_array::<BLOCK_SIZE>().ok_or(Refusal::Length)?;
+    let marks = erasures
+        .as_mut_array::<BLOCK_SIZE>()
+        .ok_or(Refusal::Length)?;
     let main = main.as_mut_array::<MAIN_SIZE>().ok_or(Refusal::Length)?;
     read_and_repair(stream, block, marks, main)
 }

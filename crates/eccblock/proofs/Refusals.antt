@@ -1,17 +1,19 @@
 -- The refusals of the block maker, case by case, and what an accepted block is.
 -- Assumes nothing.
-use mathlib.Core.Path.{◌≡◌, refl, ap, ◌∙◌}
+use mathlib.Core.Path.{◌≡◌, refl, sym, ap, ◌∙◌}
 use mathlib.Core.Bool.{Bool, true, false, ◌&&◌, cond}
 use mathlib.Core.List.{List}
 use mathlib.Core.Logic.{◌≢◌}
 use Prim.Native.Nat.{ℕ, suc, ◌%◌, ◌<◌, ◌≤◌}
 use native.Mathlib.Omega.{arith}
 use borrow.Author.Tests.{eq-eqb, ne_eqb, eqb-true, le-leb, lt-leb, leb-true}
+use lib.Bits.{bit_and}
 use lib.Dec.{eqb, leb}
 use lib.ListN.{length}
 use Rattle.std.specs.Prelude.{Option}
 use Rattle.layout.specs.Lengths.{main_size, block_size, last_first}
 use Rattle.dataframe.specs.Frame.{is_permitted}
+use Rattle.eccblock.specs.Block.{block}
 use Rattle.eccblock.specs.Encode.{follows, encode_refusal, encoded_buffer, Accepted}
 
 -- the number where neither 1 nor 2 applies
@@ -19,6 +21,10 @@ abbrev judged : Option ℕ → ℕ → ℕ → ℕ
 judged previous first info = cond (is_permitted info) (cond (follows previous first) 0 10) 3
 
 module _ (previous : Option ℕ) (n m first info : ℕ) where
+  pub main_length : n ≢ main_size → 1 ≡ encode_refusal previous n m first info
+  unfolding encode_refusal
+  main_length h = rw (ne_eqb n main_size h)
+
   module _ (e : n ≡ main_size) where
     pub buffer_length : m ≢ block_size → 1 ≡ encode_refusal previous n m first info
     unfolding encode_refusal
@@ -39,15 +45,35 @@ module _ (previous : Option ℕ) (n m first info : ℕ) where
           unfolding encode_refusal
           by_judgement = rw (eq-eqb n main_size e, eq-eqb m block_size f, eq-eqb (first % 16) 0 g, le-leb first last_first l)
 
--- ---- the buffer of a call that is refused
+module _ (previous : Option ℕ) (first info : ℕ) where
+  pub prohibited : bit_and info 0xD2 ≢ 0 → 3 ≡ judged previous first info
+  prohibited h = rw (ne_eqb (bit_and info 0xD2) 0 h)
+
+  module _ (p : bit_and info 0xD2 ≡ 0) where
+    pub not-following : follows previous first ≡ false → 10 ≡ judged previous first info
+    not-following h = rw (eq-eqb (bit_and info 0xD2) 0 p, h)
+
+    pub following : follows previous first ≡ true → 0 ≡ judged previous first info
+    following h = rw (eq-eqb (bit_and info 0xD2) 0 p, h)
+
+-- ---- the answer and the buffer of a call
+
+-- what the contract says of an answer with the number r, and of the buffer that it leaves
+pub record Answered (previous : Option ℕ) (main : List ℕ) (first info : ℕ) (old : List ℕ) (r : ℕ) (now : List ℕ) : Type 0 where
+  pub number : r ≡ encode_refusal previous (length main) (length old) first info
+  pub buffer : now ≡ encoded_buffer previous main first info old
 
 module _ (previous : Option ℕ) (main : List ℕ) (first info : ℕ) (old : List ℕ) where
   abbrev refusal : ℕ
   refusal = encode_refusal previous (length main) (length old) first info
 
-  pub left_alone : {r : ℕ} {now : List ℕ} → r ≡ refusal → r ≢ 0 → now ≡ old → now ≡ encoded_buffer previous main first info old
+  pub refused : {r : ℕ} {now : List ℕ} → r ≡ refusal → r ≢ 0 → now ≡ old → Answered previous main first info old r now
   unfolding encoded_buffer
-  left_alone e h same = same ∙ rw (ne_eqb refusal 0 (λ z. h (e ∙ z)))
+  refused e h same = record { number = e; buffer = same ∙ rw (ne_eqb refusal 0 (λ z. h (e ∙ z))) }
+
+  pub taken : {now : List ℕ} → 0 ≡ refusal → now ≡ block main first info → Answered previous main first info old 0 now
+  unfolding encoded_buffer
+  taken e made = record { number = e; buffer = made ∙ rw (eq-eqb refusal 0 (sym e)) }
 
 -- ---- an accepted block
 

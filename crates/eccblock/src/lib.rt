@@ -120,7 +120,6 @@ fn follows_on(previous: Option<u32>, first: u32) -> bool
 
 // The block maker. The block before is given by its first number, None where a run begins (document 02, request 1). Where it
 // refuses, the buffer is left as it was.
-#[tactic(auto, unfolding(crate::specs::Encode::encode_refusal, crate::specs::Encode::encoded_buffer))]
 pub fn encode_block(
     main: &[u8],
     previous: Option<u32>,

@@ -1,3 +1,4 @@
 pub mod Pool
 pub mod Answer
 pub mod Rows
+pub mod Inner

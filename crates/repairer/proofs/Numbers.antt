@@ -11,14 +11,14 @@ use native.Mathlib.Omega.{arith}
 use borrow.Author.Tests.{eqb-true, eqb-false}
 use lib.Dec.{eqb}
 use lib.ListN.{get_or}
-use Rattle.std.specs.Prelude.{Option, None, Some, Result, Ok, Err, ⊤}
+use Rattle.std.specs.Prelude.{None, Some, Result, Ok, Err, ⊤}
 use Rattle.refusals.specs.declared.Refusal.{Refusal}
 use Rattle.refusals.specs.declared.Refusal.TheVariants.{Length, FirstNumber, Information, Ied, Id, Edc, RunEnded, RunUnfinished, BadRecord, Sequence, Mark, NotTried, OtherDsv, Stretches}
 use Rattle.refusals.specs.Refusal.{refusal_number, answer_number}
 use Rattle.dataframe.specs.Checks.{info_of, number_of, ied_passes, id_passes, edc_passes, frame_refusal}
 use Rattle.layout.specs.Rows.{frame_of}
 use Rattle.repairer.specs.Repair.{repaired, tallies_of}
-use Rattle.repairer.specs.Answer.{frame_fault, passed, frame_answer, of_block, of_frame, in_order, judged, lengths_fit, marks_fit, input_fits, repair_of, repair_answer, first_failing, refused_frame, fault_at, repair_refusal, block_answer_number, block_answer_frame}
+use Rattle.repairer.specs.Answer.{frame_fault, passed, frame_answer, of_block, in_order, judged, lengths_fit, marks_fit, input_fits, repair_of, repair_answer, first_failing, refused_frame, fault_at, repair_refusal, block_answer_number, block_answer_frame}
 use Rattle.repairer.specs.declared.Repair.{Repair}
 use Rattle.repairer.specs.declared.BlockRefusal.{BlockRefusal}
 

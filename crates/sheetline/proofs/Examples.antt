@@ -2,7 +2,7 @@
 -- Assumes nothing.
 use mathlib.Core.List.{[], ◌∷◌}
 use mathlib.Core.Path.{◌≡◌, refl}
-use Rattle.std.specs.Prelude.{Option, Some, None, Ok, Err}
+use Rattle.std.specs.Prelude.{Some, None, Ok, Err}
 use Rattle.std.specs.Fmt.{digits}
 use Rattle.refusals.specs.declared.Refusal.TheVariants.{Length, Edc}
 use Rattle.repairer.specs.declared.Tallies.{Tallies}

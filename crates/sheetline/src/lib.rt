@@ -8,9 +8,8 @@ ghost use Rattle.std.specs.Prelude.{◌≡◌};
 ghost use Rattle.sheetline.specs.Inner.{written};
 ghost use Rattle.sheetline.specs.Line.{sheet_line};
 
-pub use line::Line;
-
 use blockreader::BlockRead;
+pub use line::Line;
 use repairer::BlockRefusal;
 
 // The line of an answer.

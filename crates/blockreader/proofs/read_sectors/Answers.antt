@@ -1,11 +1,10 @@
 -- `read_sectors` meets its contract. Assumes nothing.
-use mathlib.Core.Path.{◌≡◌, sym, ap, ◌∙◌}
+use mathlib.Core.Path.{◌≡◌, ap, ◌∙◌}
 use mathlib.Core.List.{List}
 use Prim.Native.Nat.{ℕ, ◌+◌, ◌-◌, ◌*◌, ◌<◌}
 use native.Mathlib.Omega.{arith}
 use lib.ListN.{length, get_or, take, drop}
 use Rattle.std.proofs.Common.{rules}
-use Rattle.std.specs.Prelude.{Ok}
 use Rattle.lists.proofs.Fill.{upto_none}
 use Rattle.channel.specs.Block.{read_at}
 use Rattle.layout.specs.Lengths.{sector_size, sector_stream, sector_read, stream_size, block_size}

@@ -1,5 +1,5 @@
 -- `repair_block` meets its contract, case by case: a buffer has another length, or the three go to `repair_sized`. Assumes nothing.
-use mathlib.Core.Path.{◌≡◌, sym, ap, ◌∙◌}
+use mathlib.Core.Path.{◌≡◌, ap, ◌∙◌}
 use lib.ListN.{length}
 use Rattle.std.specs.Prelude.{Result, Err}
 use Rattle.repairer.specs.Answer.{repair_answer, block_after, main_after}

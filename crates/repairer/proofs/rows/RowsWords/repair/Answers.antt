@@ -1,6 +1,6 @@
 -- `rows::RowsWords::repair` meets its contract: its sums and its marks decide; a row that is no code row, or has more than ten marks, is taken out, corrected and
 -- stored back. Assumes nothing.
-use mathlib.Core.Path.{◌≡◌, ap, ap₂, ◌∙◌}
+use mathlib.Core.Path.{ap, ap₂, ◌∙◌}
 use mathlib.Core.List.{List}
 use Prim.Native.Nat.{ℕ, ◌*◌, ◌<◌}
 use native.Mathlib.Omega.{arith}

@@ -16,7 +16,7 @@ returns c =
     let e = c.args.refused in
     let opening : List ℕ = refused_text ++ decimal (refusal_number e.refusal) in
     let number : written c.number-2.new.self ≡ opening =
-        then _ c.new-line.ensures.text c.number-2.ensures.text ∙ ap (λ (n : ℕ). refused_text ++ decimal n) (c.from.ensures ∙ c.number.ensures) in
+    then _ c.new-line.ensures.text c.number-2.ensures.text ∙ ap (λ (n : ℕ). refused_text ++ decimal n) (c.from.ensures ∙ c.number.ensures) in
     let frame : written c.match-refused.line ≡ opening ++ frame_part e.frame = elim c.match-refused.branch [
       | in-Some w ↦ rw (w.in-Some.is, w.line-is)
           (then _ number w.number-in-Some.ensures.text ∙ ap (λ (n : ℕ). opening ++ (frame_text ++ decimal n)) w.from-in-Some.ensures)
