@@ -76,11 +76,13 @@ fn row_case(rt: &impl Print, file: &mut impl Read) -> io::Result<()> {
     let due = next_row(file)?;
     let outcome = Outcome::Clean;
     let mended = reedsolomon::correct_row(&[0; ROW_SIZE], Row { bytes, outcome });
-    println!(rt; "trial 13: {} bytes wrong, {}, then {} bytes wrong, {}",
+    println!(rt;
+        "trial 13: {} bytes wrong, {}, then {} bytes wrong, {}",
         compare::differing(&sent, &bytes),
         outcome_text(mended.outcome),
         compare::differing(&sent, &mended.bytes),
-        verdict(&mended.bytes, &due))
+        verdict(&mended.bytes, &due)
+    )
 }
 
 fn next_row(file: &mut impl Read) -> io::Result<[u8; ROW_SIZE]> {
@@ -133,7 +135,10 @@ fn number_case(rt: &impl Print, first: u32) -> io::Result<()> {
     let mut out = [165; BLOCK_SIZE];
     let before = out;
     let answer = eccblock::encode_block(&[0; MAIN_SIZE], None, first, 0, &mut out);
-    print!(rt; "trial 15: first number {first}, answer {}", answer_number(answer))?;
+    print!(rt;
+        "trial 15: first number {first}, answer {}",
+        answer_number(answer)
+    )?;
     print_left(rt, &out, &before)
 }
 
@@ -161,7 +166,10 @@ fn sequence_case(rt: &impl Print, previous: u32, first: u32, info: u8) -> io::Re
     let mut out = [165; BLOCK_SIZE];
     let before = out;
     let answer = eccblock::encode_block(&[0; MAIN_SIZE], Some(previous), first, info, &mut out);
-    print!(rt; "previous number {previous}, first number {first}, Sector Information {info}, answer {}", answer_number(answer))?;
+    print!(rt;
+        "previous number {previous}, first number {first}, Sector Information {info}, answer {}",
+        answer_number(answer)
+    )?;
     print_left(rt, &out, &before)
 }
 
@@ -217,7 +225,9 @@ fn length_case(rt: &impl Print, n: usize, m: usize, first: u32, info: u8) -> io:
         return println!(rt; "NOT SO LONG {n} {m}");
     };
     let answer = answer_number(eccblock::encode_block(part, None, first, info, room));
-    print!(rt; "lengths {n} {m}, first number {first}, Sector Information {info}, answer {answer}")?;
+    print!(rt;
+        "lengths {n} {m}, first number {first}, Sector Information {info}, answer {answer}"
+    )?;
     print_left(rt, &out, &before)
 }
 
@@ -266,7 +276,8 @@ fn print_reading(
 // A record with the lowest peak that number 9 lets its DSV have.
 fn record(state: u8, level: u8, dsv: i64, sectors: u32, closed: bool) -> Record {
     let size = dsv.unsigned_abs();
-    let peak = if closed { size.saturating_sub(32) } else { size };
+    let margin = if closed { 32 } else { 0 };
+    let peak = size.saturating_sub(margin);
     Record {
         state,
         level,
@@ -280,8 +291,7 @@ fn record(state: u8, level: u8, dsv: i64, sectors: u32, closed: bool) -> Record 
 }
 
 fn print_record(rt: &impl Print, w: Record) -> io::Result<()> {
-    let Record { state, level, dsv, .. } = w;
-    print!(rt; " dsv {dsv} state {state} level {level}")
+    print!(rt; " dsv {} state {} level {}", w.dsv, w.state, w.level)
 }
 
 fn print_sectors(rt: &impl Print, w: Record) -> io::Result<()> {
@@ -346,27 +356,92 @@ fn far_out(rt: &(impl Files + Print)) -> io::Result<()> {
 
 // DSV 63 and -64 leave the SYNC Code; 64 and -65 try the other, and so do those far out, where equal absolute values leave it. By sector and stream: the State, the level
 // and the DSV before it, and how many sectors the block has of which it is the next.
-const TRIAL14: [(&str, &str, u8, u8, i64, u32); 15] = [
-    ("trial14/t63_smaller_1.sector", "trial14/t63_smaller_1.stream", 2, 1, 47, 14),
-    ("trial14/t63_smaller_2.sector", "trial14/t63_smaller_2.stream", 3, 0, 39, 1),
-    ("trial14/t63_smaller_3.sector", "trial14/t63_smaller_3.stream", 1, 1, 35, 15),
-    ("trial14/tm64_smaller_1.sector", "trial14/tm64_smaller_1.stream", 4, 1, -42, 11),
-    ("trial14/tm64_smaller_2.sector", "trial14/tm64_smaller_2.stream", 1, 1, -60, 3),
-    ("trial14/tm64_smaller_3.sector", "trial14/tm64_smaller_3.stream", 1, 0, -54, 13),
-    ("trial14/t64_smaller_1.sector", "trial14/t64_smaller_1.stream", 2, 1, 60, 13),
-    ("trial14/t64_smaller_2.sector", "trial14/t64_smaller_2.stream", 1, 1, 54, 3),
-    ("trial14/t64_smaller_3.sector", "trial14/t64_smaller_3.stream", 2, 1, 44, 4),
-    ("trial14/tm65_smaller_1.sector", "trial14/tm65_smaller_1.stream", 4, 0, -63, 10),
-    ("trial14/tm65_smaller_2.sector", "trial14/tm65_smaller_2.stream", 1, 1, -67, 7),
-    ("trial14/tm65_smaller_3.sector", "trial14/tm65_smaller_3.stream", 3, 1, -47, 4),
-    ("trial14/t171_equal_2.sector", "trial14/t171_equal_2.stream", 1, 0, 3, 11),
-    ("trial14/tm189_equal_1.sector", "trial14/tm189_equal_1.stream", 2, 0, 3, 8),
-    ("trial14/tm353_equal_3.sector", "trial14/tm353_equal_3.stream", 3, 1, 3, 6),
+const TRIAL14: [(&str, &str, (u8, u8, i64, u32)); 15] = [
+    (
+        "trial14/t63_smaller_1.sector",
+        "trial14/t63_smaller_1.stream",
+        (2, 1, 47, 14),
+    ),
+    (
+        "trial14/t63_smaller_2.sector",
+        "trial14/t63_smaller_2.stream",
+        (3, 0, 39, 1),
+    ),
+    (
+        "trial14/t63_smaller_3.sector",
+        "trial14/t63_smaller_3.stream",
+        (1, 1, 35, 15),
+    ),
+    (
+        "trial14/tm64_smaller_1.sector",
+        "trial14/tm64_smaller_1.stream",
+        (4, 1, -42, 11),
+    ),
+    (
+        "trial14/tm64_smaller_2.sector",
+        "trial14/tm64_smaller_2.stream",
+        (1, 1, -60, 3),
+    ),
+    (
+        "trial14/tm64_smaller_3.sector",
+        "trial14/tm64_smaller_3.stream",
+        (1, 0, -54, 13),
+    ),
+    (
+        "trial14/t64_smaller_1.sector",
+        "trial14/t64_smaller_1.stream",
+        (2, 1, 60, 13),
+    ),
+    (
+        "trial14/t64_smaller_2.sector",
+        "trial14/t64_smaller_2.stream",
+        (1, 1, 54, 3),
+    ),
+    (
+        "trial14/t64_smaller_3.sector",
+        "trial14/t64_smaller_3.stream",
+        (2, 1, 44, 4),
+    ),
+    (
+        "trial14/tm65_smaller_1.sector",
+        "trial14/tm65_smaller_1.stream",
+        (4, 0, -63, 10),
+    ),
+    (
+        "trial14/tm65_smaller_2.sector",
+        "trial14/tm65_smaller_2.stream",
+        (1, 1, -67, 7),
+    ),
+    (
+        "trial14/tm65_smaller_3.sector",
+        "trial14/tm65_smaller_3.stream",
+        (3, 1, -47, 4),
+    ),
+    (
+        "trial14/t171_equal_2.sector",
+        "trial14/t171_equal_2.stream",
+        (1, 0, 3, 11),
+    ),
+    (
+        "trial14/tm189_equal_1.sector",
+        "trial14/tm189_equal_1.stream",
+        (2, 0, 3, 8),
+    ),
+    (
+        "trial14/tm353_equal_3.sector",
+        "trial14/tm353_equal_3.stream",
+        (3, 1, 3, 6),
+    ),
 ];
 
 fn trial14(rt: &(impl Files + Print)) -> io::Result<()> {
-    for (sector_path, stream_path, state, level, dsv, sectors) in TRIAL14 {
-        sector_case(rt, sector_path, stream_path, record(state, level, dsv, sectors, false))?;
+    for (sector_path, stream_path, (state, level, dsv, sectors)) in TRIAL14 {
+        sector_case(
+            rt,
+            sector_path,
+            stream_path,
+            record(state, level, dsv, sectors, false),
+        )?;
     }
     Ok(())
 }
