@@ -90,7 +90,9 @@ fn imports_are_used(report: &mut Report) {
     for source in sources(".antt").iter().chain(&sources(".rt")) {
         let (imports, beside) = imports(&source.text);
         let body = beside.join("\n");
-        let words: HashSet<&str> = names(&body).collect();
+        // in code the brackets of type arguments end a name too, as in `Multiples<16>`
+        let split = if source.path.extension().is_some_and(|e| e == "rt") { body.replace(['<', '>'], " ") } else { body.clone() };
+        let words: HashSet<&str> = names(&split).collect();
         // what a file hands on is used by others
         for import in imports.iter().filter(|l| !l.starts_with("pub ")) {
             for name in imported(import) {

@@ -5,7 +5,6 @@
 mod tables;
 
 ghost use Rattle.std.specs.Prelude.{◌≡◌, ◌*◌, ◌-◌, ◌/◌, ◌<◌, ◌≤◌, length};
-ghost use Rattle.lists.specs.Count.{bit};
 ghost use Rattle.annexg.specs.Read.{table_of, entry_of, word_of, next_of, both_zero, agrees, fits_of, read_word};
 ghost use Rattle.annexg.specs.Inner.{read_from};
 ghost use Rattle.annexg.specs.Sync.{sync_table, code_for, is_sync};

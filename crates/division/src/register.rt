@@ -1,6 +1,6 @@
 // Long division by the generators of the inner and the outer code (ECMA-268, clause 18), the register packed in two numbers: one byte of a word takes two
 // shifts and one pair of a lent table.
-ghost use Rattle.std.specs.Prelude.{◌≡◌, ◌≤◌, List, ℕ, length, get_or};
+ghost use Rattle.std.specs.Prelude.{◌≡◌, List, ℕ, length, get_or};
 ghost use Rattle.codes.specs.Parity.{shift_in, generator_tail, parity};
 ghost use Rattle.division.specs.Inner.{Packed, packed, unpacked, beside, register_at};
 

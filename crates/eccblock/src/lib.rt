@@ -2,13 +2,13 @@
 // made once a block and lent from there on.
 #![tactic(auto)]
 
-ghost use Rattle.std.specs.Prelude.{cond, ◌≡◌, List, ℕ, ◌+◌, ◌<◌, ◌≤◌, length};
+ghost use Rattle.std.specs.Prelude.{◌≡◌, List, ℕ, ◌+◌, ◌<◌, ◌≤◌, length};
 ghost use Rattle.octets.specs.Inner.{Stored};
 ghost use Rattle.layout.specs.Lengths.{frame_size, sector_count, row_count, column_count, last_first};
 ghost use Rattle.layout.specs.Inner.{frame_place};
 ghost use Rattle.refusals.specs.Refusal.{answer_number};
 ghost use Rattle.scrambling.specs.Scrambling.{scrambled};
-ghost use Rattle.dataframe.specs.Frame.{is_permitted, data_frame};
+ghost use Rattle.dataframe.specs.Frame.{data_frame};
 ghost use Rattle.eccblock.specs.Block.{block};
 ghost use Rattle.eccblock.specs.Encode.{follows, encode_refusal, encoded_buffer};
 ghost use Rattle.eccblock.specs.Inner.{Frames, Columns, Rows};

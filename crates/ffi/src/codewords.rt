@@ -121,12 +121,11 @@ pub extern "C" fn chamanzil_correct_row(row: &mut [u8], erasures: &[u8]) -> u32
     if !repairer::marks_fit(erasures) {
         return 11;
     }
-    let given = Row {
-        bytes: *row,
-        outcome: Outcome::Clean,
-    };
-    let repaired = reedsolomon::correct_row(erasures, given);
-    *row = repaired.bytes;
+    let bytes = *row;
+    let outcome = Outcome::Clean;
+    let repaired = reedsolomon::correct_row(erasures, Row { bytes, outcome });
+    let near = repaired.bytes;
+    *row = near;
     outcome_number(repaired.outcome)
 }
 
@@ -139,12 +138,11 @@ pub extern "C" fn chamanzil_correct_column(column: &mut [u8]) -> u32
     let Some(column) = column.as_mut_array::<ROW_COUNT>() else {
         return 1;
     };
-    let given = Column {
-        bytes: *column,
-        outcome: Outcome::Clean,
-    };
-    let repaired = reedsolomon::correct_column(given);
-    *column = repaired.bytes;
+    let bytes = *column;
+    let outcome = Outcome::Clean;
+    let repaired = reedsolomon::correct_column(Column { bytes, outcome });
+    let near = repaired.bytes;
+    *column = near;
     outcome_number(repaired.outcome)
 }
 
@@ -157,11 +155,10 @@ pub extern "C" fn chamanzil_correct_light_row(row: &mut [u8]) -> u32
     let Some(row) = row.as_mut_array::<ROW_SIZE>() else {
         return 1;
     };
-    let given = LightRow {
-        bytes: *row,
-        outcome: LightOutcome::Heavier,
-    };
-    let repaired = lightrepair::correct_light_row(given);
-    *row = repaired.bytes;
+    let bytes = *row;
+    let outcome = LightOutcome::Heavier;
+    let repaired = lightrepair::correct_light_row(LightRow { bytes, outcome });
+    let near = repaired.bytes;
+    *row = near;
     light_number(repaired.outcome)
 }

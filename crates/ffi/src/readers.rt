@@ -45,9 +45,12 @@ fn lay_repair(answer: Result<Repair, BlockRefusal>, report: &mut [u32; REPAIR_RE
                 0,
             ];
         }
-        Err(BlockRefusal {
-            frame: Some(frame), ..
-        }) => *report = [0, 0, 0, 0, 0, u32::from(frame)],
+        Err(
+            BlockRefusal {
+                frame: Some(frame),
+                ..
+            },
+        ) => *report = [0, 0, 0, 0, 0, u32::from(frame)],
         Err(_) => {}
     }
 }
@@ -69,9 +72,12 @@ fn lay_block(answer: Result<BlockRead, BlockRefusal>, report: &mut [u32; BLOCK_R
                 0,
             ];
         }
-        Err(BlockRefusal {
-            frame: Some(frame), ..
-        }) => *report = [0, 0, 0, 0, 0, 0, 0, u32::from(frame)],
+        Err(
+            BlockRefusal {
+                frame: Some(frame),
+                ..
+            },
+        ) => *report = [0, 0, 0, 0, 0, 0, 0, u32::from(frame)],
         Err(_) => {}
     }
 }
@@ -165,7 +171,7 @@ pub extern "C" fn chamanzil_repair_block(
     };
     let answer = repairer::repair_block(block, erasures, main);
     lay_repair(answer, report);
-    u32::from(repairer::repair_number(answer))
+    u32::from(repairer::block_answer_number(answer))
 }
 
 // 77,380 bytes of stream to a block of 37,856, as the repairer leaves it, as many marks, and 32,768 main data bytes; 0, or refusal 1, 4, 5 or 6. The report is the
@@ -210,5 +216,5 @@ pub extern "C" fn chamanzil_read_block(
     };
     let answer = blockreader::read_block(stream, block, erasures, main);
     lay_block(answer, report);
-    u32::from(repairer::repair_number(answer))
+    u32::from(repairer::block_answer_number(answer))
 }

@@ -58,6 +58,7 @@ fn write_first(main: &[u8], first: u32, info: u8, out: &mut [u8]) -> Result<Reco
 }
 
 // The run of one block: 32,768 main data bytes to a stream of 77,380. Where a number applies, the buffer is left as it was.
+// The stream is a slice: parts of an array behind a lent reference are not covered by the borrow checker.
 pub fn format_block(main: &[u8], first: u32, info: u8, out: &mut [u8]) -> Result<(), Refusal>
     ensures result_value { answer_number result
         ≡ format_refusal (length main.now) (length out.old) first info }

@@ -1,6 +1,5 @@
 // Both streams over a byte, and over the 91 bytes of a frame (clause 22).
-ghost use Rattle.std.specs.Prelude.{◌≡◌, cond, ◌+◌, leb};
-ghost use Rattle.channel.specs.Channel.{swaps};
+ghost use Rattle.std.specs.Prelude.{◌≡◌, ◌+◌, leb};
 ghost use Rattle.layout.specs.Lengths.{frame_bytes};
 ghost use Rattle.levels.specs.Level.{magnitude};
 ghost use Rattle.streams.specs.Streams.{Two, swap_possible, step, filled};

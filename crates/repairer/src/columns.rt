@@ -11,7 +11,7 @@ use crate::words::Words;
 use codes::Outcome;
 use division::Remainder;
 use field::Logs;
-use layout::{BLOCK_SIZE, COLUMN_COUNT, OUTER_SIZE, ROW_COUNT};
+use layout::{BLOCK_SIZE, COLUMN_COUNT, OUTER_SIZE};
 use multiples::Multiples;
 use reedsolomon::Column;
 

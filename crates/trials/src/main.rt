@@ -70,6 +70,7 @@ fn trial13(rt: &(impl Files + Print)) -> io::Result<()> {
     Ok(())
 }
 
+// Three calls, since an array of three rows that a function fills loses the rows' lengths (tried).
 fn row_case(rt: &impl Print, file: &mut impl Read) -> io::Result<()> {
     let sent = next_row(file)?;
     let bytes = next_row(file)?;

@@ -6,7 +6,7 @@ use mathlib.Core.List.{List}
 use mathlib.Core.Logic.{◌⊎◌, inl, inr}
 use Prim.Native.Nat.{ℕ, ◌+◌, ◌*◌, ◌<◌, ◌≤◌, max}
 use native.Mathlib.Omega.{arith}
-use borrow.Author.Tests.{eqb-true, le-leb, lt-leb, le-ltb, ltb-false, eq-eqb, ne_eqb}
+use borrow.Author.Tests.{eqb-true, leb-true, leb-false, le-leb, lt-leb, le-ltb, ltb-false, eq-eqb, ne_eqb}
 use lib.Dec.{T, eqb, ltb, leb, leb→le, le→leb}
 use lib.IntN.{nat_abs}
 use lib.ListN.{length}
@@ -74,6 +74,29 @@ unsound w (inr (inl h)) = sound_by w true false _ _ _ _ (le-leb 1 w.state h.0) (
 unsound w (inr (inr (inl h))) = sound_by w true true false _ _ _ (le-leb 1 w.state h.0) (le-leb w.state 4 h.1) (lt-leb w.level 1 h.2) refl refl refl
 unsound w (inr (inr (inr h))) =
     sound_by w true true true false _ _ (le-leb 1 w.state h.0) (le-leb w.state 4 h.1) (le-leb w.level 1 h.2) (lt-leb w.sectors run_sectors h.3) refl refl
+
+-- a peak over 38,688 times the sectors
+pub peak_over : (w : Record) → sector_bits * w.sectors < w.peak → in_range w ≡ false
+peak_over w h =
+    ap (λ (x : Bool). dsv_in_range w && (dsv_below_peak w && x)) (lt-leb w.peak (sector_bits * w.sectors) h)
+    ∙ ap (λ (x : Bool). dsv_in_range w && x) (and_false (dsv_below_peak w))
+    ∙ and_false (dsv_in_range w)
+
+-- a DSV beyond 2^40 is beyond every limit
+pub too_far : (w : Record) → w.sectors ≤ run_sectors → leb (nat_abs w.dsv) zero_at ≡ false → in_range w ≡ false
+too_far w h e =
+    let far = lt-leb (nat_abs w.dsv) (limit_of w) (omega (arith, leb-false (nat_abs w.dsv) zero_at e, bit_le w.closed)) in
+    ap (λ (x : Bool). x && (dsv_below_peak w && peak_in_range w)) far
+
+-- a DSV that is not above a peak in its range is in its own range
+pub dsv_by_peak : (w : Record) → w.peak ≤ sector_bits * w.sectors → dsv_below_peak w ≡ in_range w
+dsv_by_peak w h = by (dsv_below_peak w) refl
+  where
+    by : (x : Bool) → dsv_below_peak w ≡ x → x ≡ in_range w
+    by true e =
+        let dsv = le-leb (nat_abs w.dsv) (limit_of w) (omega (arith, leb-true (nat_abs w.dsv) (above_of w) e)) in
+        sym (ap₂ ◌&&◌ dsv (ap₂ ◌&&◌ e (le-leb w.peak (sector_bits * w.sectors) h)))
+    by false e = sym (ap (λ (x : Bool). dsv_in_range w && (x && peak_in_range w)) e ∙ and_false (dsv_in_range w))
 
 pub sector_by :
     (w : Record) (from to : ℕ) (a b c d : Bool) → eqb from sector_size ≡ a → eqb to sector_stream ≡ b → sound w ≡ c → ended w 1 ≡ d

@@ -115,6 +115,7 @@ impl Record {
     fn is_sound(self) -> bool
         ensures { result ≡ sound self }
     {
+        // in one && with what follows the proof did not close
         if self.state < 1 || 4 < self.state || 1 < self.level || RUN_SECTORS < self.sectors {
             return false;
         }

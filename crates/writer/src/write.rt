@@ -34,6 +34,7 @@ pub(crate) fn write_sector(current: Record, bytes: &[u8], out: &mut [u8]) -> Res
 }
 
 // The sixteen sectors of a block, one after the other into the stream, each with the record that the one before it handed back.
+// Block and stream are slices: a part that was turned into an array in the loop is not followed back into the whole (tried).
 pub(crate) fn write_each(current: Record, block: &[u8], out: &mut [u8]) -> Record
     requires block_len { length block.now ≡ block_size }
     requires out_len { length out.old ≡ sectors_stream }

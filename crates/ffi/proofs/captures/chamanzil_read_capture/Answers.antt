@@ -4,6 +4,6 @@ use Rattle.std.proofs.lemmas.Grind.{common_steps}
 use Rattle.capture.specs.Answer.{ListAfter}
 use Rattle.ffi.proofs.captures.chamanzil_read_capture.Goals as goal
 
-pub returns-then-report-ne-CAPTURE_REPORT-clause-list_after : goal.returns-then-report-ne-CAPTURE_REPORT-clause-list_after
+pub returns-in_default-clause-list_after : goal.returns-in_default-clause-list_after
 unfolding ListAfter
-returns-then-report-ne-CAPTURE_REPORT-clause-list_after c = grind (arith, common_steps)
+returns-in_default-clause-list_after c = grind (arith, common_steps)
