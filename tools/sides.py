@@ -97,7 +97,8 @@ def items(title, a, b, pairs, show):
         if not show(key):
             continue
         name = "::".join(key)
-        to = pairs.get(name, name)
+        # a function's move says nothing of a definition that stands
+        to = name if key in b else pairs.get(name, name)
         other = tuple(to.split("::"))
         if other in b:
             if sorted(a[key]) != sorted(b[other]):

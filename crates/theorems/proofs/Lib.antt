@@ -1,4 +1,5 @@
 pub mod Chain
+pub mod Registers
 pub mod Rows
 pub mod ReadBytes
 pub mod Runs
