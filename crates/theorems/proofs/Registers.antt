@@ -1,7 +1,7 @@
 -- What the register of long division holds once a word has passed through it: its parity, as many bytes as the code has roots, in its two numbers. It stands here and
 -- not beside the laws of division, which say of it only the two numbers.
 -- Assumes nothing.
-use Rattle.std.proofs.Common.{subst, ◌≤◌, ℕ, List, length, take, replicate}
+use Rattle.std.proofs.Common.{subst, ◌≤◌, ℕ, List, length, replicate}
 use lib.Seq.{take_all}
 use Rattle.codes.specs.Parity.{generator_tail, remainder, parity}
 use Rattle.division.specs.Inner.{Packed}
