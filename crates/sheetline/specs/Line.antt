@@ -1,11 +1,16 @@
 -- The line of the bench sheet as a list of bytes (document 01, 'The bench sheet'). The texts are in ASCII.
 -- Assumes nothing.
-use Rattle.std.specs.Prelude.{cond, List, [], ◌∷◌, ◌++◌, ℕ, ◌+◌, ◌/◌, ◌%◌, ltb, decimal, Option, Some, None, Result, Ok, Err}
+use Rattle.std.specs.Prelude.{cond, List, [], ◌∷◌, ◌++◌, ℕ, ◌+◌, ◌/◌, ◌%◌, ltb, take, decimal, Option, Some, None, Result, Ok, Err}
 use Rattle.repairer.specs.declared.Tally.{Tally}
 use Rattle.repairer.specs.declared.Tallies.{Tallies}
 use Rattle.blockreader.specs.declared.BlockRead.{BlockRead}
 use Rattle.refusals.specs.Refusal.{refusal_number}
 use Rattle.repairer.specs.declared.BlockRefusal.{BlockRefusal}
+use Rattle.sheetline.specs.declared.line.Line.{Line}
+
+-- what a caller gets of a line: the bytes that are written of it
+abbrev pub written : Line → List ℕ
+written line = take line.len line.bytes
 
 -- the last hexadecimal digit of a number, 0 to 9 and A to F
 abbrev pub hex_digit : ℕ → ℕ

@@ -5,8 +5,7 @@ mod line;
 mod numbers;
 
 ghost use Rattle.std.specs.Prelude.{◌≡◌};
-ghost use Rattle.sheetline.specs.Inner.{written};
-ghost use Rattle.sheetline.specs.Line.{sheet_line};
+ghost use Rattle.sheetline.specs.Line.{written, sheet_line};
 
 use blockreader::BlockRead;
 pub use line::Line;

@@ -1,6 +1,5 @@
 // A line, and the texts and numbers that are written one after the other.
 ghost use Rattle.std.specs.Prelude.{◌≡◌, [], ◌++◌, ◌+◌, ◌≤◌, length, decimal};
-ghost use Rattle.sheetline.specs.Line.{tally_text, newline};
 
 use crate::numbers;
 use blockreader::BlockRead;
@@ -15,8 +14,7 @@ pub struct Line {
 }
 
 impl Line {
-    ghost use Rattle.sheetline.specs.Inner.{written};
-    ghost use Rattle.sheetline.specs.Line.{sheet_line};
+    ghost use Rattle.sheetline.specs.Line.{written, tally_text, newline, sheet_line};
 
     fn new() -> Line
         ensures text { written result ≡ [] }

@@ -32,7 +32,7 @@ fn main(rt: HostRuntime) -> io::Result<()> {
 
 // ---- files and lines
 
-// A whole file, which is as long as the buffer.
+// A whole file, which is as long as the buffer. Where it is missing or short, what is left of the buffer stays, and what is printed goes by that.
 fn load(rt: &(impl Files + Print), path: &str, buf: &mut [u8]) -> io::Result<()> {
     let Ok(mut file) = fs::open(rt, path) else {
         return println!(rt; "NO FILE {path}");
@@ -116,7 +116,7 @@ fn block_case(
     info: u8,
 ) -> io::Result<()> {
     let mut main = [0; MAIN_SIZE];
-    let mut due = [0; BLOCK_SIZE];
+    let mut due = [165; BLOCK_SIZE];
     let mut out = [165; BLOCK_SIZE];
     load(rt, main_path, &mut main)?;
     load(rt, block_path, &mut due)?;
@@ -250,7 +250,7 @@ fn streams(rt: &(impl Files + Print)) -> io::Result<()> {
 
 fn block_stream(rt: &(impl Files + Print), stream_path: &str, block_path: &str) -> io::Result<()> {
     let mut stream = [0; STREAM_SIZE];
-    let mut bytes = [0; BLOCK_SIZE];
+    let mut bytes = [165; BLOCK_SIZE];
     load(rt, stream_path, &mut stream)?;
     load(rt, block_path, &mut bytes)?;
     print_reading(rt, stream_path, &stream, &bytes, 0)
@@ -308,7 +308,7 @@ fn written_blocks(rt: &(impl Files + Print)) -> io::Result<()> {
 
 // Sixteen sectors and the closing code, with the record after each.
 fn written_block(rt: &(impl Files + Print), block_path: &str, stream_path: &str) -> io::Result<()> {
-    let mut block = [0; BLOCK_SIZE];
+    let mut block = [165; BLOCK_SIZE];
     let mut due = [0; STREAM_SIZE];
     let mut out = [0; STREAM_SIZE];
     load(rt, block_path, &mut block)?;

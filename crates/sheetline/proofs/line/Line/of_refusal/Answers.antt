@@ -4,8 +4,7 @@ use mathlib.Core.Path.{◌≡◌, sym, ap, ◌∙◌}
 use Prim.Native.Nat.{ℕ}
 use Rattle.std.specs.Prelude.{decimal}
 use Rattle.refusals.specs.Refusal.{refusal_number}
-use Rattle.sheetline.specs.Inner.{written}
-use Rattle.sheetline.specs.Line.{sheet_line, refused_text, frame_part, frame_text}
+use Rattle.sheetline.specs.Line.{written, sheet_line, refused_text, frame_part, frame_text}
 use Rattle.sheetline.proofs.Laying.{then}
 use Rattle.sheetline.proofs.line.Line.of_refusal.Goals as goal
 use Rattle.sheetline.proofs.line.Line.of_refusal.Goals.{in-Some, in_default}
