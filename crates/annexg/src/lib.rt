@@ -14,15 +14,15 @@ ghost use Rattle.annexg.specs.Sync.{sync_table, code_for, is_sync};
 pub struct CodeWords {
     pub main: [u32; 1024],
     pub substitutes: [u32; 352],
-    ghost main_value: { main ≡ table_of 0 },
-    ghost substitutes_value: { substitutes ≡ table_of 1 },
+    pub ghost main_value: { main ≡ table_of 0 },
+    pub ghost substitutes_value: { substitutes ≡ table_of 1 },
 }
 
 // The first half words of the SYNC Codes.
 #[derive(Clone, Copy)]
 pub struct SyncCodes {
-    codes: [u16; 32],
-    ghost codes_value: { codes ≡ sync_table },
+    pub codes: [u16; 32],
+    pub ghost codes_value: { codes ≡ sync_table },
 }
 
 impl CodeWords {

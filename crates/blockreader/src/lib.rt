@@ -9,12 +9,14 @@ ghost use Rattle.layout.specs.Lengths.{main_size};
 ghost use Rattle.repairer.specs.Answer.{repair_answer, block_after, main_after, repair_refusal, refused_frame, block_answer_number, block_answer_frame};
 ghost use Rattle.blockreader.specs.BlockReader.{sector_sum, with_sums, block_read_answer, block_read_block, block_read_erasures, block_read_main, block_read_refusal, block_read_refused_frame};
 
+use annexg::{CodeWords, SyncCodes};
 use layout::{
     BLOCK_SIZE, MAIN_SIZE, SECTOR_COUNT, SECTOR_READ, SECTOR_SIZE, SECTOR_STREAM, STREAM_SIZE,
 };
 use reader::{ReadingTables, SectorTally};
 use refusals::Refusal;
 use repairer::{BlockRefusal, Tallies};
+use wordindex::{WordIndex, WordReader};
 
 // A block whose frames all pass: its first number, the repairer's tallies, and the sums of the sector tallies.
 #[derive(Clone, Copy, PartialEq, Eq, Debug)]
@@ -36,7 +38,15 @@ fn read_sectors(
     ensures unknown { result.unknown ≡ sector_sum unknown_tally stream.now 0 16 }
     ensures sync { result.sync ≡ sector_sum sync_tally stream.now 0 16 }
 {
-    let tables = ReadingTables::new();
+    let words = CodeWords::new();
+    let index = WordIndex::new(&words);
+    let tables = ReadingTables {
+        words: WordReader {
+            words: &words,
+            index: &index,
+        },
+        syncs: &SyncCodes::new(),
+    };
     let mut sums = SectorTally {
         unknown: 0,
         sync: 0,

@@ -7,9 +7,9 @@ ghost use Rattle.framing.specs.Stretches.{gap, stretches_from};
 ghost use Rattle.capture.specs.Answer.{filled, laid_out};
 
 use crate::Captured;
-use annexg::SyncCodes;
+use annexg::{CodeWords, SyncCodes};
 use layout::{FRAME_BITS, FRAME_BYTES};
-use wordindex::WordReader;
+use wordindex::{WordIndex, WordReader};
 
 // How many stretches the bits from bit a up to bit b are: one, where there are any.
 fn gap_count(a: usize, b: usize) -> u64
@@ -43,7 +43,12 @@ pub fn write_frames(syncs: &SyncCodes, stream: &[u8], at: usize, out: &mut [u8])
     ensures { out.new
         ≡ filled (bytes_of stream.now (frames_from stream.now at)) out.old }
 {
-    let words = WordReader::new();
+    let words = CodeWords::new();
+    let index = WordIndex::new(&words);
+    let words = WordReader {
+        words: &words,
+        index: &index,
+    };
     let mut done = 0;
     let mut from = at;
     while let Some(frame) = framing::next_frame(syncs, stream, from) {

@@ -8,8 +8,8 @@ ghost use Rattle.edc.specs.Inner.{edc_table};
 // What each byte leaves of the division.
 #[derive(Clone, Copy)]
 pub struct EdcTable {
-    table: [u32; 1024],
-    ghost sound: { table ≡ edc_table },
+    pub table: [u32; 1024],
+    pub ghost sound: { table ≡ edc_table },
 }
 
 impl EdcTable {

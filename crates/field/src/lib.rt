@@ -8,8 +8,8 @@ ghost use Rattle.field.specs.Inner.{LogTable};
 // The logarithms and powers of α.
 #[derive(Clone, Copy)]
 pub struct Logs {
-    table: [u8; 768],
-    ghost sound: { LogTable table },
+    pub table: [u8; 768],
+    pub ghost sound: { LogTable table },
 }
 
 impl Logs {

@@ -117,8 +117,8 @@ impl Pair {
         let plan = self.plan(&tables.words, byte);
         let pair = self.even(plan.copy, plan.first, at, stream1, stream2);
         Pair {
-            one: pair.one.word(tables, byte, plan.one, at, stream1),
-            two: pair.two.word(tables, byte, plan.two, at, stream2),
+            one: pair.one.word(&tables.words, &tables.levels, byte, plan.one, at, stream1),
+            two: pair.two.word(&tables.words, &tables.levels, byte, plan.two, at, stream2),
             shared: pair.shared,
         }
     }
@@ -159,8 +159,8 @@ impl Pair {
         ensures two { Whole result.two.running stream2.new
             (filled running code bytes.now).two }
     {
-        let one = Side::sync(tables, running, code, false, stream1);
-        let two = Side::sync(tables, running, code, true, stream2);
+        let one = Side::sync(&tables.syncs, &tables.levels, running, code, false, stream1);
+        let two = Side::sync(&tables.syncs, &tables.levels, running, code, true, stream2);
         let pair = Pair {
             one,
             two,

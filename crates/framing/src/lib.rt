@@ -51,7 +51,7 @@ pub fn next_frame(syncs: &SyncCodes, stream: &[u8], from: usize) -> Option<usize
 }
 
 // The bytes of the frame that starts at a bit. The last word is read with the first half of the second SYNC Code.
-pub fn read_frame(words: &WordReader, stream: &[u8], at: usize) -> [u8; FRAME_BYTES]
+pub fn read_frame(words: &WordReader<'_>, stream: &[u8], at: usize) -> [u8; FRAME_BYTES]
     requires { at + frame_bits + 16 ≤ bit_count stream.now }
     ensures { result ≡ bytes_of_frame stream.now at }
 {

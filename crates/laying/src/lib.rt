@@ -39,43 +39,52 @@ impl Tables {
             levels: Levels::new(),
         }
     }
+}
 
-    // The entry of annex G that a choice takes for a byte in a State. Without it the main word of that State; with it the substitution word for bytes 0 to 87,
-    // and for the others the word of State 4 in State 1, and of State 1 in State 4.
-    pub fn entry_for(&self, state: u8, byte: u8, choice: bool) -> u32
-        requires { State state }
-        ensures { result ≡ entry_for state byte choice }
-    {
-        if !choice {
-            self.words.entry(0, byte, state - 1)
-        } else if byte < 88 {
-            self.words.entry(1, byte, state - 1)
-        } else {
-            self.words.entry(0, byte, 4 - state)
-        }
+// The entry of annex G that a choice takes for a byte in a State. Without it the main word of that State; with it the substitution word for bytes 0 to 87,
+// and for the others the word of State 4 in State 1, and of State 1 in State 4.
+pub fn entry_for(words: &CodeWords, state: u8, byte: u8, choice: bool) -> u32
+    requires { State state }
+    ensures { result ≡ entry_for state byte choice }
+{
+    if !choice {
+        words.entry(0, byte, state - 1)
+    } else if byte < 88 {
+        words.entry(1, byte, state - 1)
+    } else {
+        words.entry(0, byte, 4 - state)
     }
 }
 
 impl Side {
     // The Code Word that a choice takes for a byte, at the end of a stream.
-    pub fn word(self, tables: &Tables, byte: u8, choice: bool, at: usize, buffer: &mut [u8]) -> Side
+    pub fn word(
+        self,
+        words: &CodeWords,
+        levels: &Levels,
+        byte: u8,
+        choice: bool,
+        at: usize,
+        buffer: &mut [u8],
+    ) -> Side
         requires { Next self at buffer.old }
         ensures value { result ≡ side_after self.running (channel.byte byte) choice }
         ensures buffer_after { buffer.new
             ≡ put_half buffer.old at (last_for self.running.state (channel.byte byte) choice) }
     {
-        let entry = tables.entry_for(self.running.state, byte, choice);
+        let entry = entry_for(words, self.running.state, byte, choice);
         let word = (entry / 16) as u16;
         octets::put_half(buffer, at, word);
         Side {
-            running: self.running.word(&tables.levels, word, (entry % 16) as u8),
+            running: self.running.word(levels, word, (entry % 16) as u8),
             tail: word,
         }
     }
 
     // A SYNC Code at the front of a buffer.
     pub fn sync(
-        tables: &Tables,
+        syncs: &SyncCodes,
+        levels: &Levels,
         running: Running,
         code: u8,
         choice: bool,
@@ -87,11 +96,11 @@ impl Side {
         ensures buffer_after { buffer.new
             ≡ put_half (put_half buffer.old 0 (code_for running.state code choice)) 2 sync_end }
     {
-        let first = tables.syncs.code(running.state, code, choice);
+        let first = syncs.code(running.state, code, choice);
         octets::put_half(buffer, 0, first);
         octets::put_half(buffer, 2, SYNC_END);
         Side {
-            running: running.sync(&tables.levels, first),
+            running: running.sync(levels, first),
             tail: SYNC_END,
         }
     }

@@ -86,8 +86,8 @@ pub const LONGEST_CAPTURE: usize = 1099511627776;
 // The SYNC Codes of the 13 rows of a sector, two frames a row, made once and lent.
 #[derive(Clone, Copy)]
 pub struct FrameCodes {
-    codes: [u8; SECTOR_FRAMES],
-    ghost sound: { codes ≡ frame_codes },
+    pub codes: [u8; SECTOR_FRAMES],
+    pub ghost sound: { codes ≡ frame_codes },
 }
 
 impl FrameCodes {

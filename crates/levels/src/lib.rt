@@ -22,8 +22,8 @@ pub struct Running {
 // The levels over each byte. The writer's inmost work is the step over a half word: eight bits at a time, by this table.
 #[derive(Clone, Copy)]
 pub struct Levels {
-    table: [u8; 256],
-    ghost table_value: { table ≡ level_table },
+    pub table: [u8; 256],
+    pub ghost table_value: { table ≡ level_table },
 }
 
 impl Levels {

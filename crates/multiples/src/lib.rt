@@ -10,8 +10,8 @@ mod table;
 #[derive(Clone, Copy)]
 pub struct Multiples<const P: usize> {
     pub table: [u64; 512],
-    ghost sound: { table ≡ multiples P },
-    ghost fits: { P ≤ 16 },
+    pub ghost sound: { table ≡ multiples P },
+    pub ghost fits: { P ≤ 16 },
 }
 
 // Of the inner code.

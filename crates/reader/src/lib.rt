@@ -11,12 +11,12 @@ ghost use Rattle.refusals.specs.Refusal.{answer_number};
 ghost use Rattle.reader.specs.Closing.{closing_holds};
 ghost use Rattle.reader.specs.Sector.{lost_sync, unknown_tally, sector_answer, sector_after, erasures_after, sector_read_refusal};
 
-use annexg::SyncCodes;
+use annexg::{CodeWords, SyncCodes};
 use layout::{
     CLOSING_SIZE, FRAME_BYTES, FRAME_HALVES, FrameCodes, SECTOR_FRAMES, SECTOR_READ, SECTOR_SIZE,
 };
 use refusals::Refusal;
-use wordindex::WordReader;
+use wordindex::{WordIndex, WordReader};
 
 // The two tallies of a sector: its unknown words, and its SYNC places that hold none of the four codes due there.
 #[derive(Clone, Copy, PartialEq, Eq, Debug)]
@@ -25,20 +25,11 @@ pub struct SectorTally {
     pub sync: u32,
 }
 
-// What a reader looks up: the Code Words with their index, and the SYNC Codes.
+// What a reader looks up: the Code Words with their index, and the SYNC Codes. They are lent, as `WordReader` says.
 #[derive(Clone, Copy)]
-pub struct ReadingTables {
-    pub words: WordReader,
-    pub syncs: SyncCodes,
-}
-
-impl ReadingTables {
-    pub fn new() -> ReadingTables {
-        ReadingTables {
-            words: WordReader::new(),
-            syncs: SyncCodes::new(),
-        }
-    }
+pub struct ReadingTables<'a> {
+    pub words: WordReader<'a>,
+    pub syncs: &'a SyncCodes,
 }
 
 // ---- the words
@@ -46,7 +37,7 @@ impl ReadingTables {
 // Every word is judged with the half word after it: for the last word of a frame that is the first of the next SYNC place, and for the sector's last word the
 // two bytes after the sector.
 fn read_bytes(
-    words: &WordReader,
+    words: &WordReader<'_>,
     stream: &[u8; SECTOR_READ],
     out: &mut [u8; SECTOR_SIZE],
     erasures: &mut [u8; SECTOR_SIZE],
@@ -97,7 +88,7 @@ fn lost_syncs(syncs: &SyncCodes, stream: &[u8; SECTOR_READ]) -> u32
 // The sector reader, for a caller that has the tables at hand. Where it refuses, both buffers are left as they were.
 #[tactic(auto, using(crate::proofs::Counts::sync_tally_counts), unfolding(crate::specs::Sector::sector_answer, crate::specs::Sector::sector_after, crate::specs::Sector::erasures_after, crate::specs::Sector::sector_read_refusal, crate::specs::Sector::sector_fits))]
 pub fn read_sector_with(
-    tables: &ReadingTables,
+    tables: &ReadingTables<'_>,
     stream: &[u8],
     out: &mut [u8],
     erasures: &mut [u8],
@@ -117,7 +108,7 @@ pub fn read_sector_with(
         .as_mut_array::<SECTOR_SIZE>()
         .ok_or(Refusal::Length)?;
     let unknown = read_bytes(&tables.words, stream, out, erasures);
-    let sync = lost_syncs(&tables.syncs, stream);
+    let sync = lost_syncs(tables.syncs, stream);
     Ok(SectorTally { unknown, sync })
 }
 
@@ -136,7 +127,16 @@ pub fn read_sector(
     ensures erasures_after { erasures.new
         ≡ erasures_after stream.now (length out.old) erasures.old }
 {
-    read_sector_with(&ReadingTables::new(), stream, out, erasures)
+    let words = CodeWords::new();
+    let index = WordIndex::new(&words);
+    let tables = ReadingTables {
+        words: WordReader {
+            words: &words,
+            index: &index,
+        },
+        syncs: &SyncCodes::new(),
+    };
+    read_sector_with(&tables, stream, out, erasures)
 }
 
 // ---- the closing code

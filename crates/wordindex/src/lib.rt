@@ -9,12 +9,18 @@ ghost use Rattle.wordindex.specs.Inner.{slot_of, put_one, put_entry, put_all, wo
 
 use annexg::CodeWords;
 
-// The tables of Code Words, with their index.
+// The index, one number a slot.
 #[derive(Clone, Copy)]
-pub struct WordReader {
-    words: CodeWords,
-    index: [u32; 8192],
-    ghost index_value: { index ≡ word_index },
+pub struct WordIndex {
+    pub slots: [u32; 8192],
+    pub ghost slots_value: { slots ≡ word_index },
+}
+
+// The tables of Code Words and their index, lent: 38 KB that stay where they are made, since each move of them would take as much of the stack once more.
+#[derive(Clone, Copy)]
+pub struct WordReader<'a> {
+    pub words: &'a CodeWords,
+    pub index: &'a WordIndex,
 }
 
 // The slot of a word: of two neighbours the second is for words before bits 15 and 3 that are both ZERO.
@@ -57,22 +63,23 @@ fn put_table(table: u32, entries: &[u32], index: &mut [u32; 8192])
     }
 }
 
-impl WordReader {
-    pub fn new() -> WordReader {
-        let words = CodeWords::new();
-        let mut index = [0u32; 8192];
-        put_table(0, &words.main, &mut index);
-        put_table(1, &words.substitutes, &mut index);
-        WordReader { words, index }
+impl WordIndex {
+    pub fn new(words: &CodeWords) -> WordIndex {
+        let mut slots = [0u32; 8192];
+        put_table(0, &words.main, &mut slots);
+        put_table(1, &words.substitutes, &mut slots);
+        WordIndex { slots }
     }
+}
 
+impl WordReader<'_> {
     // What a word is read as where another half word follows: the search through the columns, from the entry on whose number is in the word's slot.
     pub fn read(&self, word: u16, following: u16) -> Option<u8>
         ensures { result ≡ read_word word following }
     {
         let zero = annexg::both_zero(following);
         let at = slot_of(u32::from(word), zero);
-        let number = self.index[at];
+        let number = self.index.slots[at];
         // % 2 says nothing new: with it the compiler knows that there are two tables
         let table = (number / 1024 % 2) as usize;
         self.words

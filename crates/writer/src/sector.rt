@@ -8,11 +8,12 @@ ghost use Rattle.streams.specs.Peak.{peak_of};
 ghost use Rattle.streams.specs.Streams.{one_lower, opened};
 ghost use Rattle.writer.specs.Inner.{frame_at, FrameBegins, SectorBegins};
 
+use annexg::SyncCodes;
 use laying::{Side, Tables};
 use layout::{
     CLOSING_SIZE, FRAME_BYTES, FRAME_STREAM, FrameCodes, SECTOR_FRAMES, SECTOR_SIZE, SECTOR_STREAM,
 };
-use levels::Running;
+use levels::{Levels, Running};
 
 // The running record after a sector, and the peak so far (document 02, request 4).
 #[derive(Clone, Copy)]
@@ -103,22 +104,23 @@ pub(crate) fn sector(
 }
 
 // The choice of the closing code (document 02, request 7): Secondary just where that SY0 of the class leaves a lower absolute DSV after its 32 bits than the Primary.
-fn closing_choice(tables: &Tables, start: Running) -> bool
+fn closing_choice(syncs: &SyncCodes, levels: &Levels, start: Running) -> bool
     requires { Room start 32 }
     ensures { result ≡ not (one_lower (opened start 0)) }
 {
-    let primary = start.sync(&tables.levels, tables.syncs.code(start.state, 0, false));
-    let secondary = start.sync(&tables.levels, tables.syncs.code(start.state, 0, true));
+    let primary = start.sync(levels, syncs.code(start.state, 0, false));
+    let secondary = start.sync(levels, syncs.code(start.state, 0, true));
     !frames::lower(primary.dsv, secondary.dsv)
 }
 
-// The closing code from a running record: SY0, by the DSV.
+// The closing code from a running record: SY0, by the DSV. It needs two of the writer's tables, and makes no others.
 pub(crate) fn closing(start: Running, out: &mut [u8; CLOSING_SIZE]) -> Running
     requires { Room start 32 }
     ensures running { result ≡ (closing_of start).running }
     ensures laid { out.new ≡ packed (closing_of start).halves }
 {
-    let tables = Tables::new();
-    let choice = closing_choice(&tables, start);
-    Side::sync(&tables, start, 0, choice, out).running
+    let syncs = SyncCodes::new();
+    let levels = Levels::new();
+    let choice = closing_choice(&syncs, &levels, start);
+    Side::sync(&syncs, &levels, start, 0, choice, out).running
 }

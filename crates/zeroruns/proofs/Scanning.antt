@@ -9,7 +9,7 @@ use native.Mathlib.Numerals.{add-one}
 use native.Mathlib.Omega.{arith}
 use lib.ListN.{length, get_or, drop, drop_of_length-le}
 use lib.Seq.{drop-cons}
-use Rattle.std.specs.Prelude.{Option, Some}
+use Rattle.std.specs.Prelude.{Option, Some, None}
 use Rattle.channel.specs.Bits.{bits_bytes, block_zero_run_fits, one_fits, zero_runs_from}
 use Rattle.channel.proofs.Overlaps.{bits-long}
 use Rattle.octets.specs.Halves.{bit_at}
@@ -49,11 +49,16 @@ module _ (xs : List ℕ) (last : Option ℕ) (j : ℕ) where
   unfolding zero_runs_from
   scan_end h = rw (drop_of_length-le (bits_bytes xs) {i = j} (omega (arith, bits-long xs))) refl
 
+-- where the last ONE before bit j stands, after which there were so many ZEROs
+abbrev pub last_one : ℕ → Option ℕ → Option ℕ
+last_one j None = None
+last_one j (Some n) = Some (j - n - 1)
+
 -- the zero run that a ONE ends, as the code counts it
 pub scan_run :
-    (xs : List ℕ) (last : Option ℕ) (one j : ℕ) (fits : Bool) → j < 8 * length xs → bit_at xs j ≡ 1 → last ≡ Some one → fits ≡ block_zero_run_fits one (j - one - 1)
-    → zero_runs_from last j (drop j (bits_bytes xs)) ≡ (fits && zero_runs_from (Some j) (j + 1) (drop (j + 1) (bits_bytes xs)))
-scan_run xs last one j fits h e o f =
-    let same : j - one - 1 ≡ j - suc one = omega arith in
-    scan_one xs last j h e ∙ ap (λ (b : Bool). b && zero_runs_from (Some j) (j + 1) (drop (j + 1) (bits_bytes xs)))
-    (ap (λ (l : Option ℕ). one_fits l j) o ∙ sym (f ∙ ap (block_zero_run_fits one) same))
+    (xs : List ℕ) (n j : ℕ) (fits : Bool) → j < 8 * length xs → n < j → bit_at xs j ≡ 1 → fits ≡ block_zero_run_fits (j - n - 1) n
+    → zero_runs_from (Some (j - n - 1)) j (drop j (bits_bytes xs)) ≡ (fits && zero_runs_from (Some j) (j + 1) (drop (j + 1) (bits_bytes xs)))
+scan_run xs n j fits h m e f =
+    let same : n ≡ j - suc (j - n - 1) = omega arith in
+    scan_one xs (Some (j - n - 1)) j h e ∙ ap (λ (b : Bool). b && zero_runs_from (Some j) (j + 1) (drop (j + 1) (bits_bytes xs)))
+    (sym (f ∙ ap (block_zero_run_fits (j - n - 1)) same))

@@ -31,16 +31,18 @@ pub fn zero_runs_hold(stream: &[u8]) -> bool
     if STREAM_SIZE < stream.len() {
         return false;
     }
-    // where the last ONE stands, if one was seen
-    let mut last: Option<usize> = None;
+    // the ZEROs since the last ONE, if one was seen: to count them is quicker than to hold where it stands
+    let mut zeros: Option<usize> = None;
     for j in 0..stream.len() * 8 {
         if octets::bit_at(stream, j) {
-            if let Some(one) = last {
-                if !zero_run_fits(one, j - one - 1) {
+            if let Some(n) = zeros {
+                if !zero_run_fits(j - n - 1, n) {
                     return false;
                 }
             }
-            last = Some(j);
+            zeros = Some(0);
+        } else if let Some(n) = zeros {
+            zeros = Some(n + 1);
         }
     }
     true

@@ -5,7 +5,8 @@ use Prim.Native.Nat.{◌<◌}
 use lib.ListN.{drop}
 use Rattle.std.specs.Prelude.{IfSome}
 use Rattle.channel.specs.Bits.{bits_bytes, zero_runs_from, zero_runs_hold}
+use Rattle.zeroruns.proofs.Scanning.{last_one}
 use Rattle.zeroruns.proofs.zero_runs_hold.Given as goal
 
 abbrev pub invariant-loop-j : goal.invariant-loop-j
-invariant-loop-j l = (IfSome l.last (λ i. i < l.j)) × (zero_runs_hold l.stream ≡ zero_runs_from l.last l.j (drop l.j (bits_bytes l.stream)))
+invariant-loop-j l = (IfSome l.zeros (λ n. n < l.j)) × (zero_runs_hold l.stream ≡ zero_runs_from (last_one l.j l.zeros) l.j (drop l.j (bits_bytes l.stream)))

@@ -1,7 +1,7 @@
--- `laying::Tables::entry_for` meets its contract: a case of `entry_for` for each of its three lookups.
+-- `laying::entry_for` meets its contract: a case of `entry_for` for each of its three lookups.
 -- Assumes nothing.
 use borrow.Author.Tests.{lt-ltb, le-ltb}
-use Rattle.laying.proofs.Tables.entry_for.Goals as goal
+use Rattle.laying.proofs.entry_for.Goals as goal
 
 pub returns-then-not-choice : goal.returns-then-not-choice
 returns-then-not-choice c = rw (c.if-not-choice.true) c.entry.ensures
