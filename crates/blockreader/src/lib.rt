@@ -16,7 +16,7 @@ use layout::{
 use reader::{ReadingTables, SectorTally};
 use refusals::Refusal;
 use repairer::{BlockRefusal, Tallies};
-use wordindex::{WordIndex, WordReader};
+use wordindex::WordReader;
 
 // A block whose frames all pass: its first number, the repairer's tallies, and the sums of the sector tallies.
 #[derive(Clone, Copy, PartialEq, Eq, Debug)]
@@ -39,13 +39,15 @@ fn read_sectors(
     ensures sync { result.sync ≡ sector_sum sync_tally stream.now 0 16 }
 {
     let words = CodeWords::new();
-    let index = WordIndex::new(&words);
+    let index = wordindex::word_index(&words);
+    let syncs = SyncCodes::new();
+    let reader = WordReader {
+        words: &words,
+        index: &index,
+    };
     let tables = ReadingTables {
-        words: WordReader {
-            words: &words,
-            index: &index,
-        },
-        syncs: &SyncCodes::new(),
+        words: reader,
+        syncs: &syncs,
     };
     let mut sums = SectorTally {
         unknown: 0,

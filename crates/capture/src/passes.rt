@@ -9,7 +9,7 @@ ghost use Rattle.capture.specs.Answer.{filled, laid_out};
 use crate::Captured;
 use annexg::{CodeWords, SyncCodes};
 use layout::{FRAME_BITS, FRAME_BYTES};
-use wordindex::{WordIndex, WordReader};
+use wordindex::WordReader;
 
 // How many stretches the bits from bit a up to bit b are: one, where there are any.
 fn gap_count(a: usize, b: usize) -> u64
@@ -44,7 +44,7 @@ pub fn write_frames(syncs: &SyncCodes, stream: &[u8], at: usize, out: &mut [u8])
         ≡ filled (bytes_of stream.now (frames_from stream.now at)) out.old }
 {
     let words = CodeWords::new();
-    let index = WordIndex::new(&words);
+    let index = wordindex::word_index(&words);
     let words = WordReader {
         words: &words,
         index: &index,

@@ -16,7 +16,7 @@ use layout::{
     CLOSING_SIZE, FRAME_BYTES, FRAME_HALVES, FrameCodes, SECTOR_FRAMES, SECTOR_READ, SECTOR_SIZE,
 };
 use refusals::Refusal;
-use wordindex::{WordIndex, WordReader};
+use wordindex::WordReader;
 
 // The two tallies of a sector: its unknown words, and its SYNC places that hold none of the four codes due there.
 #[derive(Clone, Copy, PartialEq, Eq, Debug)]
@@ -27,9 +27,9 @@ pub struct SectorTally {
 
 // What a reader looks up: the Code Words with their index, and the SYNC Codes. They are lent, as `WordReader` says.
 #[derive(Clone, Copy)]
-pub struct ReadingTables<'a> {
-    pub words: WordReader<'a>,
-    pub syncs: &'a SyncCodes,
+pub struct ReadingTables<'w, 's> {
+    pub words: WordReader<'w>,
+    pub syncs: &'s SyncCodes,
 }
 
 // ---- the words
@@ -88,7 +88,7 @@ fn lost_syncs(syncs: &SyncCodes, stream: &[u8; SECTOR_READ]) -> u32
 // The sector reader, for a caller that has the tables at hand. Where it refuses, both buffers are left as they were.
 #[tactic(auto, using(crate::proofs::Counts::sync_tally_counts), unfolding(crate::specs::Sector::sector_answer, crate::specs::Sector::sector_after, crate::specs::Sector::erasures_after, crate::specs::Sector::sector_read_refusal, crate::specs::Sector::sector_fits))]
 pub fn read_sector_with(
-    tables: &ReadingTables<'_>,
+    tables: &ReadingTables<'_, '_>,
     stream: &[u8],
     out: &mut [u8],
     erasures: &mut [u8],
@@ -128,13 +128,15 @@ pub fn read_sector(
         ≡ erasures_after stream.now (length out.old) erasures.old }
 {
     let words = CodeWords::new();
-    let index = WordIndex::new(&words);
+    let index = wordindex::word_index(&words);
+    let syncs = SyncCodes::new();
+    let reader = WordReader {
+        words: &words,
+        index: &index,
+    };
     let tables = ReadingTables {
-        words: WordReader {
-            words: &words,
-            index: &index,
-        },
-        syncs: &SyncCodes::new(),
+        words: reader,
+        syncs: &syncs,
     };
     read_sector_with(&tables, stream, out, erasures)
 }

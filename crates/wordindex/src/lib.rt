@@ -9,18 +9,12 @@ ghost use Rattle.wordindex.specs.Inner.{slot_of, put_one, put_entry, put_all, wo
 
 use annexg::CodeWords;
 
-// The index, one number a slot.
-#[derive(Clone, Copy)]
-pub struct WordIndex {
-    pub slots: [u32; 8192],
-    pub ghost slots_value: { slots ≡ word_index },
-}
-
 // The tables of Code Words and their index, lent: 38 KB that stay where they are made, since each move of them would take as much of the stack once more.
 #[derive(Clone, Copy)]
 pub struct WordReader<'a> {
     pub words: &'a CodeWords,
-    pub index: &'a WordIndex,
+    pub index: &'a [u32; 8192],
+    pub ghost index_value: { index.now ≡ word_index },
 }
 
 // The slot of a word: of two neighbours the second is for words before bits 15 and 3 that are both ZERO.
@@ -63,13 +57,14 @@ fn put_table(table: u32, entries: &[u32], index: &mut [u32; 8192])
     }
 }
 
-impl WordIndex {
-    pub fn new(words: &CodeWords) -> WordIndex {
-        let mut slots = [0u32; 8192];
-        put_table(0, &words.main, &mut slots);
-        put_table(1, &words.substitutes, &mut slots);
-        WordIndex { slots }
-    }
+// The index of both tables.
+pub fn word_index(words: &CodeWords) -> [u32; 8192]
+    ensures { result ≡ word_index }
+{
+    let mut index = [0u32; 8192];
+    put_table(0, &words.main, &mut index);
+    put_table(1, &words.substitutes, &mut index);
+    index
 }
 
 impl WordReader<'_> {
@@ -79,7 +74,7 @@ impl WordReader<'_> {
     {
         let zero = annexg::both_zero(following);
         let at = slot_of(u32::from(word), zero);
-        let number = self.index.slots[at];
+        let number = self.index[at];
         // % 2 says nothing new: with it the compiler knows that there are two tables
         let table = (number / 1024 % 2) as usize;
         self.words

@@ -21,5 +21,5 @@ from_slot w f i r z xs hx hz hi hr =
 
 pub returns : goal.returns
 returns c =
-    from_slot c.args.word c.args.following _ _ _ _ c.args.self.now.index.now.slots_value c.both_zero-zero.ensures
+    from_slot c.args.word c.args.following _ _ _ _ c.args.self.now.index_value c.both_zero-zero.ensures
     (c.slot_of-at.ensures.value ∙ ap (λ (w : ℕ). slot_of w c.both_zero-zero.result) c.from.ensures) c.search_from.ensures
