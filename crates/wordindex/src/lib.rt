@@ -9,11 +9,11 @@ ghost use Rattle.wordindex.specs.Inner.{slot_of, put_one, put_entry, put_all, wo
 
 use annexg::CodeWords;
 
-// The tables of Code Words and their index, lent: 38 KB that stay where they are made, since each move of them would take as much of the stack once more.
+// The tables of Code Words and their index, lent: 22 KB that stay where they are made, since each move of them would take as much of the stack once more.
 #[derive(Clone, Copy)]
 pub struct WordReader<'a> {
     pub words: &'a CodeWords,
-    pub index: &'a [u32; 8192],
+    pub index: &'a [u16; 8192],
     pub ghost index_value: { index.now ≡ word_index },
 }
 
@@ -27,7 +27,7 @@ fn slot_of(word: u32, zero: bool) -> usize
 }
 
 // An entry takes the slot of its word where its next State agrees: the slot holds its number.
-fn put_one(zero: bool, number: u32, entry: u32, index: &mut [u32; 8192])
+fn put_one(zero: bool, number: u16, entry: u32, index: &mut [u16; 8192])
     requires { entry < 1048576 }
     ensures { index.new ≡ put_one zero number entry index.old }
 {
@@ -37,7 +37,7 @@ fn put_one(zero: bool, number: u32, entry: u32, index: &mut [u32; 8192])
     }
 }
 
-fn put_entry(number: u32, entry: u32, index: &mut [u32; 8192])
+fn put_entry(number: u16, entry: u32, index: &mut [u16; 8192])
     requires { entry < 1048576 }
     ensures { index.new ≡ put_entry number entry index.old }
 {
@@ -46,22 +46,22 @@ fn put_entry(number: u32, entry: u32, index: &mut [u32; 8192])
 }
 
 // The entries of a table; the main table's have the numbers 0 to 1,023, the substitution table's 1,024 to 1,375.
-fn put_table(table: u32, entries: &[u32], index: &mut [u32; 8192])
+fn put_table(table: u32, entries: &[u32], index: &mut [u16; 8192])
     requires table_bound { table < 2 }
     requires entries_value { entries.now ≡ table_of table }
     ensures { index.new ≡ put_all table index.old }
 {
     for (k, entry) in entries.iter().enumerate() {
         let number = table * 1024 + k as u32;
-        put_entry(number, *entry, index);
+        put_entry(number as u16, *entry, index);
     }
 }
 
 // The index of both tables.
-pub fn word_index(words: &CodeWords) -> [u32; 8192]
+pub fn word_index(words: &CodeWords) -> [u16; 8192]
     ensures { result ≡ word_index }
 {
-    let mut index = [0u32; 8192];
+    let mut index = [0u16; 8192];
     put_table(0, &words.main, &mut index);
     put_table(1, &words.substitutes, &mut index);
     index
@@ -74,7 +74,7 @@ impl WordReader<'_> {
     {
         let zero = annexg::both_zero(following);
         let at = slot_of(u32::from(word), zero);
-        let number = self.index[at];
+        let number = u32::from(self.index[at]);
         // % 2 says nothing new: with it the compiler knows that there are two tables
         let table = (number / 1024 % 2) as usize;
         self.words

@@ -29,6 +29,10 @@ overflow_cast-number c = omega (arith, short c.args.table c.args.entries.now (c.
 pub overflow_add-number : goal.overflow_add-number
 overflow_add-number c = omega (arith, c.requires.table_bound, short c.args.table c.args.entries.now (c.requires.table_bound, c.requires.entries_value))
 
+pub overflow_cast-number-in-loop-k : goal.overflow_cast-number-in-loop-k
+overflow_cast-number-in-loop-k c =
+    omega (arith, c.requires.table_bound, short c.args.table c.args.entries.now (c.requires.table_bound, c.requires.entries_value))
+
 pub put_entry-requires : goal.put_entry-requires
 put_entry-requires c = below c.args.table c.args.entries.now (c.requires.table_bound, c.requires.entries_value) c.loop-k.k
 
