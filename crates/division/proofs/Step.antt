@@ -103,6 +103,16 @@ pub shift_bytes : (g x : List ℕ) (b : ℕ) → Bytes x → Bytes (shift_in g x
 unfolding remainder
 shift_bytes g x b h = remainder-bytes g (b ∷ []) x h
 
+-- a register moved up by one place fits a number of 64 bits
+pub room : (h l : ℕ) → l < 18446744073709551616 → h % top * 256 + l / top < 18446744073709551616
+room h l k = go (h % top) (l / top) (omega arith) (omega arith)
+  where
+    go : (a b : ℕ) → a < top → b < 256 → a * 256 + b < 18446744073709551616
+    go a b la lb = omega arith
+
+pub byte_index : (b h : ℕ) → b < 256 → h < 18446744073709551616 → add b (h / top) < 256
+byte_index b h l m = add-lt l (omega arith)
+
 pub packed_next : (p b : ℕ) (x m : List ℕ) (r : Remainder) → p ≤ 16 → m ≡ multiples p → b < 256 → Packed p x r
     → Packed p (shift_in (generator_tail p) x b) (record {
       high = add (r.high % top * 256 + r.low / top) (get_or m (2 * add b (r.high / top)) 0);
@@ -111,7 +121,7 @@ pub packed_next : (p b : ℕ) (x m : List ℕ) (r : Remainder) → p ≤ 16 → 
 packed_next p b x m r le e small w =
     let g : List ℕ = generator_tail p in
     let s : length g ≡ length x = tail_length p ∙ sym w.size in
-    let i : add b (high x / top) < 256 = add-lt small (omega (arith, high_lt x w.bytes)) in
+    let i : add b (high x / top) < 256 = byte_index b (high x) small (high_lt x w.bytes) in
     record {
       size = shift_size g x b s ∙ w.size;
       bytes = shift_bytes g x b w.bytes;

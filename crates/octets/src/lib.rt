@@ -1,4 +1,4 @@
-// Bytes in buffers: the copy, half words of 16 bits, single bits. Every other crate that moves bytes goes through these.
+// Bytes in buffers: the copy, half words of 16 bits, single bits. Most of the other crates that move bytes go through these.
 #![tactic(auto)]
 
 ghost use Rattle.std.specs.Prelude.{◌≡◌, ◌+◌, ◌*◌, ◌%◌, ◌<◌, ◌≤◌, length};

@@ -7,11 +7,13 @@ use mathlib.Core.List.{List}
 use mathlib.Core.Logic.{◌≢◌}
 use Prim.Native.Nat.{ℕ}
 use borrow.Author.Tests.{eq-eqb, ne_eqb}
+use lib.Dec.{eqb, eqb→eq}
 use lib.ListN.{length}
 use Rattle.std.specs.Prelude.{Result, Ok, Err, ⊤}
 use Rattle.refusals.specs.declared.Refusal.{Refusal}
 use Rattle.refusals.specs.declared.Refusal.TheVariants.{Length, Mark}
 use Rattle.refusals.specs.Refusal.{answer_number}
+use Rattle.lists.proofs.Test.{and_left, and_right, truth, truth_of}
 use Rattle.layout.specs.Lengths.{block_size}
 use Rattle.repairer.specs.Answer.{marks_fit}
 use Rattle.pooling.specs.Pool.{MarkedBytes, pooled}
@@ -45,6 +47,38 @@ pub second_tells : (s t p q : Bool) → s ≡ p → s ≡ true → t ≡ q → t
 second_tells s t p q e f g = g ∙ ap (λ (u : Bool). u && q) (sym f ∙ e)
 
 module _ (a b : MarkedBytes) where
+  -- each of the four buffers has the length of a block
+  sizes : pool_sized a b ≡ true → (length a.bytes ≡ block_size) × (length a.erasures ≡ block_size) × (length b.bytes ≡ block_size) × (length b.erasures ≡ block_size)
+  unfolding pool_sized
+  sizes t =
+      let x : Bool = eqb (length a.bytes) block_size in
+      let m : Bool = eqb (length a.erasures) block_size in
+      let y : Bool = eqb (length b.bytes) block_size in
+      let n : Bool = eqb (length b.erasures) block_size in
+      let h = truth_of ((x && m) && (y && n)) t in
+      let first = and_left (x && m) (y && n) h in
+      let second = and_right (x && m) (y && n) h in (
+        eqb→eq (length a.bytes) block_size (and_left x m first),
+        eqb→eq (length a.erasures) block_size (and_right x m first),
+        eqb→eq (length b.bytes) block_size (and_left y n second),
+        eqb→eq (length b.erasures) block_size (and_right y n second),
+      )
+
+  marks_fit_lem : pool_marks_fit a b ≡ true → (marks_fit a.erasures ≡ true) × (marks_fit b.erasures ≡ true)
+  unfolding pool_marks_fit
+  marks_fit_lem t =
+      let h = truth_of (marks_fit a.erasures && marks_fit b.erasures) t in (
+        truth (marks_fit a.erasures) (and_left (marks_fit a.erasures) (marks_fit b.erasures) h),
+        truth (marks_fit b.erasures) (and_right (marks_fit a.erasures) (marks_fit b.erasures) h),
+      )
+
+  -- what is known where s says that the lengths are as stated, and m that the marks fit
+  module _ (s : Bool) (es : s ≡ pool_sized a b) (y : s ≡ true) (m : Bool) (em : m ≡ pool_marks_fit a b) (t : m ≡ true) where
+    pub places_fit :
+        ((length a.bytes ≡ block_size) × (length a.erasures ≡ block_size) × (length b.bytes ≡ block_size) × (length b.erasures ≡ block_size))
+        × ((marks_fit a.erasures ≡ true) × (marks_fit b.erasures ≡ true))
+    places_fit = (sizes (sym es ∙ y), marks_fit_lem (sym em ∙ t))
+
   pub meets : (r : Result ⊤ Refusal) (w : MarkedBytes) (xs ms : List ℕ) → r ≡ pool_answer a b → w ≡ pool_after a b → xs ≡ w.bytes → ms ≡ w.erasures → Meets a b r xs ms
   meets r w xs ms e f p q = record {
     value = e;

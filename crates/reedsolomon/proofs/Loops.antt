@@ -75,6 +75,12 @@ module _ (f : ℕ → Bool) (k : ℕ) (pos : 0 < k) (S : ℕ → ℕ) where
   marked_skip e i =
       ap (λ (t : Bool). without_marked f (k - 1) (cond t (without (pow 2 (k - 1)) S) S) i) (sym e) ∙ ap (λ (n : ℕ). without_marked f n S i) next
 
+-- where nothing is marked they stay
+pub marked_none : (f : ℕ → Bool) (n : ℕ) (S : ℕ → ℕ) → ((k : ℕ) → f k ≡ false) → (i : ℕ) → without_marked f n S i ≡ S i
+unfolding without_marked
+marked_none f zero S h i = refl
+marked_none f (suc n) S h i = ap (λ (t : Bool). without_marked f n (cond t (without (pow 2 n) S) S) i) (h n) ∙ marked_none f n S h i
+
 dot-same : (c : List ℕ) (S R : ℕ → ℕ) → ((i : ℕ) → S i ≡ R i) → (i : ℕ) → dot c S i ≡ dot c R i
 unfolding dot
 dot-same [] S R h i = refl

@@ -5,7 +5,7 @@
 --   WordsUpto                                         the words before k are repaired, and everything else is as it was
 --   words_none, word_same, words_more, words_all      its steps
 -- Assumes nothing.
-use mathlib.Core.Path.{◌≡◌, refl, sym, ap, ◌∙◌, ◌≡⟨◌⟩◌, ◌∎}
+use mathlib.Core.Path.{◌≡◌, refl, sym, ap, subst, ◌∙◌, ◌≡⟨◌⟩◌, ◌∎}
 use mathlib.Core.Bool.{Bool, true, false, cond}
 use mathlib.Core.List.{List}
 use mathlib.Core.Logic.{◌≢◌, dite}
@@ -43,6 +43,10 @@ use Rattle.repairer.specs.Inner.{Axis, Rows, Columns, roots_of, count_of, size_o
 -- of word k became r, and what the repair gives for it stands in its place. ms are the marks of the block's bytes
 abbrev pub RepairedWord : Axis → List ℕ → List ℕ → ℕ → Outcome → List ℕ → Type 0
 RepairedWord a ms xs k r new = (r ≡ outcome_of_word a ms xs k) × Stored (place_of a k) (repaired_word a ms xs k) xs new (size_of a)
+
+-- along b, which is the axis a
+pub repaired_along_lem : (a b : Axis) → a ≡ b → (ms xs : List ℕ) (k : ℕ) (r : Outcome) (new : List ℕ) → RepairedWord b ms xs k r new → RepairedWord a ms xs k r new
+repaired_along_lem a b e ms xs k r new h = subst (λ (x : Axis). RepairedWord x ms xs k r new) (sym e) h
 
 pub word_shape : (a : Axis) → Shape (size_of a) (roots_of a)
 word_shape Rows = row_shape

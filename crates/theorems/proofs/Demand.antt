@@ -22,8 +22,9 @@
 --   bits_bytes, block_zero_run_fits              channel/specs/Bits              the zero runs, which no call of this theorem tests
 --   Buffers, Lent, call_answer, block_bytes,   reader/specs/Session            sixteen calls, by the two lines below
 --   block_erasures
---   sector_answer, sector_after,               reader/specs/Sector             reader::read_sector, answer_number
---   erasures_after, sector_read_number
+--   sector_answer, sector_after,               reader/specs/Sector             reader::read_sector
+--   erasures_after
+--   answer_number                              refusals/specs/Refusal          refusals::answer_number
 --   repair_answer, main_after, tallies_of       repairer/specs/Answer, Repair   repairer::repair_block
 --   block_read_answer, block_read_main,          blockreader/specs/BlockReader   blockreader::read_block
 --   sector_sum (read_block, erasures_of_block,

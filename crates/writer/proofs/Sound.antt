@@ -4,9 +4,9 @@ use mathlib.Core.Path.{◌≡◌, refl, sym, ap, ap₂, subst, ◌∙◌}
 use mathlib.Core.Bool.{Bool, true, false, not, cond, ◌&&◌, ◌||◌}
 use mathlib.Core.List.{List}
 use mathlib.Core.Logic.{◌⊎◌, inl, inr}
-use Prim.Native.Nat.{ℕ, ◌+◌, ◌*◌, ◌<◌, ◌≤◌, max}
+use Prim.Native.Nat.{ℕ, ◌+◌, ◌-◌, ◌*◌, ◌<◌, ◌≤◌, max}
 use native.Mathlib.Omega.{arith}
-use borrow.Author.Tests.{eqb-true, leb-true, leb-false, le-leb, lt-leb, le-ltb, ltb-false, eq-eqb, ne_eqb}
+use borrow.Author.Tests.{eqb-true, leb-true, leb-false, le-leb, lt-leb, lt-ltb, le-ltb, ltb-true, ltb-false, eq-eqb, ne_eqb}
 use lib.Dec.{T, eqb, ltb, leb, leb→le, le→leb}
 use lib.IntN.{nat_abs}
 use lib.ListN.{length}
@@ -132,6 +132,14 @@ sector_by_state w from to f t = sector_by w from to true true (sound w) (ended w
 pub closing_length : (w : Record) (to : ℕ) → (to ≡ closing_size → ⊥) → 1 ≡ closing_refusal w to
 unfolding closing_refusal
 closing_length w to h = rw (ne_eqb to closing_size h) refl
+
+-- the run's end, tested without a sum
+pub more_ended : (n more : ℕ) → more ≤ run_sectors → ltb (run_sectors - more) n ≡ ltb run_sectors (n + more)
+more_ended n more h = by (ltb (run_sectors - more) n) refl
+  where
+    by : (x : Bool) → ltb (run_sectors - more) n ≡ x → x ≡ ltb run_sectors (n + more)
+    by true e = sym (lt-ltb run_sectors (n + more) (omega (arith, ltb-true (run_sectors - more) n e)))
+    by false e = sym (le-ltb run_sectors (n + more) (omega (arith, ltb-false (run_sectors - more) n e)))
 
 -- ---- a sound record, part by part
 

@@ -1,20 +1,41 @@
--- The bits of a stream one by one (bits_at), and the scan over them for zero runs: over a ZERO (scan_zero), over a ONE
--- (scan_one, scan_run), at the end (scan_end).
+-- The test of a zero run by its cases (fits_low, -mid, -other, -thirteen), the bits of a stream one by one (bits_at), and the scan over them for zero runs: over a
+-- ZERO (scan_zero), over a ONE (scan_one, scan_run), at the end (scan_end).
 -- Assumes nothing.
 use mathlib.Core.Path.{◌≡◌, refl, sym, ap, ◌∙◌}
-use mathlib.Core.Bool.{Bool, true, ◌&&◌}
+use mathlib.Core.Bool.{Bool, true, false, ◌&&◌}
 use mathlib.Core.List.{List, [], ◌∷◌}
 use Prim.Native.Nat.{ℕ, zero, suc, ◌+◌, ◌*◌, ◌-◌, ◌/◌, ◌%◌, ◌<◌, ◌≤◌}
 use native.Mathlib.Numerals.{add-one}
 use native.Mathlib.Omega.{arith}
+use borrow.Author.Tests.{ne_eqb, le-leb, lt-leb}
+use lib.Dec.{eqb}
 use lib.ListN.{length, get_or, drop, drop_of_length-le}
 use lib.Seq.{drop-cons}
 use Rattle.std.specs.Prelude.{Option, Some, None}
 use Rattle.channel.specs.Bits.{bits_bytes, block_zero_run_fits, one_fits, zero_runs_from}
 use Rattle.channel.proofs.Overlaps.{bits-long}
 use Rattle.octets.specs.Halves.{bit_at}
+use Rattle.layout.specs.Lengths.{frame_bits}
 
-bits_at : (xs : List ℕ) (j : ℕ) → j < 8 * length xs → get_or (bits_bytes xs) j 0 ≡ bit_at xs j
+-- ---- the test, by the case of the zero run
+
+pub fits_low : (i n : ℕ) → n < 2 → false ≡ block_zero_run_fits i n
+fits_low i n h =
+    let a : eqb n 13 ≡ false = ne_eqb n 13 (λ e. omega (arith, e)) in
+    rw (lt-leb 2 n h, a) refl
+
+pub fits_mid : (i n : ℕ) → 2 ≤ n → n ≤ 10 → true ≡ block_zero_run_fits i n
+fits_mid i n h k = rw (le-leb 2 n h, le-leb n 10 k) refl
+
+pub fits_other : (i n : ℕ) → 10 < n → (n ≡ 13 → ⊥) → false ≡ block_zero_run_fits i n
+fits_other i n h k = rw (le-leb 2 n (omega arith), lt-leb n 10 h, ne_eqb n 13 k) refl
+
+pub fits_thirteen : (i n : ℕ) → n ≡ 13 → eqb (i % frame_bits) 13 ≡ block_zero_run_fits i n
+fits_thirteen i n h = rw h refl
+
+-- ---- the scan
+
+pub bits_at : (xs : List ℕ) (j : ℕ) → j < 8 * length xs → get_or (bits_bytes xs) j 0 ≡ bit_at xs j
 unfolding bits_bytes bit_at
 bits_at [] j h = absurd (omega arith)
 bits_at (x ∷ xs) zero h = refl
