@@ -1,7 +1,6 @@
 """Lists each public signature, clause, ghost field, definition and named theorem that differs between two trees, old and new one above the other, as Markdown (docs/DESIGN-PASS.md ends with it).
 usage: tools/sides.py OLD NEW      folders with crates/, README.md and docs/
-A function is found again at its name in its crate, or where tools/moved.tsv says; a definition and a theorem at its name. The other public names of proofs/ stand in two tables: those that went, with
-what tools/moved.tsv says of each, and those that say another thing, with what tools/restated.tsv says. By text alone, as the kit's contracts.py, whose reader this is."""
+A function is found again at its name in its crate, or where tools/moved.tsv says; a definition and a theorem at its name. By text alone, as the kit's contracts.py, whose reader this is."""
 
 import collections
 import os
@@ -12,15 +11,14 @@ sys.path.insert(0, "/opt/rattle/port")
 import contracts  # noqa: E402
 
 
-def moved(root, file="moved.tsv"):
-    """Old name to new name, CRATE::NAME each; or to a sentence that says what states the promise now. Several names of a crate, with `, ` between them, share a line."""
+def moved(root):
+    """Old name to new name, CRATE::NAME each; or to a sentence that says what states the promise now."""
     pairs = {}
-    with open(os.path.join(root, "tools", file), encoding="utf-8") as f:
+    with open(os.path.join(root, "tools", "moved.tsv"), encoding="utf-8") as f:
         for line in f:
             if line.strip() and not line.startswith("#"):
                 old, new = line.rstrip("\n").split("\t")
-                crate, names = old.split("::", 1)
-                pairs.update({f"{crate}::{name}": new for name in names.split(", ")})
+                pairs[old] = new
     return pairs
 
 
@@ -31,8 +29,7 @@ def public(functions):
         for f in found:
             if f["pub"] and not f["test"] and not f["in tests"]:
                 kind = place.split(" for ")[-1].split("<")[0] + "::" if place else ""
-                # a type's functions for several parameters, as `Multiples<10>::new` and `Multiples<16>::new`, stand together
-                out[f"{crate}::{kind}{name}"] = out.get(f"{crate}::{kind}{name}", []) + lines(name, f)
+                out[f"{crate}::{kind}{name}"] = lines(name, f)
     return out
 
 
@@ -56,40 +53,6 @@ def theorems(root, crates):
                     for m in re.finditer(r"^ *pub (?:record |unfoldable |abbrev )*([^\s:(){}]+)\s*:(.*?)(?=\n *\1(?:\s|$)|\n *unfolding |\nwhere|\n\n)", text, re.S | re.M):
                         out[crate, m[1]].append(contracts.squeeze(m[2]))
     return out
-
-
-def laws(root, crates):
-    """CRATE NAME of each public name in the files of proofs/ itself, with the parameters of its modules and its statement, to which the equations of a definition and the fields of a record belong."""
-    out = collections.defaultdict(list)
-    for crate in crates:
-        base = os.path.join(root, "crates", crate, "proofs")
-        for f in sorted(os.listdir(base)) if os.path.isdir(base) else []:
-            if f.endswith(".antt"):
-                text = re.sub(r"^ *--.*\n| +--.*", "", open(os.path.join(base, f), encoding="utf-8").read(), flags=re.M)
-                text = re.sub(r"^ *module _ [^=]*? where$", lambda m: re.sub(r"\n +", " ", m[0]), text, flags=re.M)
-                for name, statement in public_names(text.split("\n")):
-                    out[crate, name].append(contracts.squeeze(statement))
-    return out
-
-
-def public_names(lines):
-    around = []  # how far in each module or record around a line stands, and the module's parameters or None
-    for at, line in enumerate(lines):
-        depth = len(line) - len(line.lstrip())
-        while line.strip() and around and depth <= around[-1][0]:
-            around.pop()
-        module = re.match(r" *module _ (.*) where$", line)
-        m = re.match(r" *((?:pub |abbrev |unfoldable |record |data )*)([^\s:(){}]+)(.*)", line)
-        if module:
-            around.append((depth, module[1]))
-        elif m and "pub " in m[1] and m[2] not in ("mod", "use") and all(parameters is not None for _, parameters in around):
-            whole = re.search(r"abbrev|unfoldable|record|data", m[1])
-            end = at + 1
-            while end < len(lines) and lines[end].strip() and (whole or not re.match(rf" *(?:unfolding |{re.escape(m[2])}(?: |$))", lines[end])):
-                end += 1
-            yield m[2], " ".join([parameters for _, parameters in around] + [m[1], m[3]] + lines[at + 1 : end])
-            if "record" in m[1] or "data" in m[1]:
-                around.append((depth, None))
 
 
 def named(root):
@@ -148,24 +111,6 @@ def items(title, a, b, pairs, show):
             block(f"`{'::'.join(key)}`, new", [], b[key])
 
 
-def inner(a, b, gone, restated, shown):
-    """The public names of proofs/ that no list above shows: those that went, and those that say another thing."""
-    print("\n### Lemmas and inner definitions that went\n\nPublic names of proofs/, and what states now what each promised.\n")
-    rows(("name", "what states it now"), [(key, gone.get("::".join(key), "GONE")) for key in a if key not in b and key not in shown])
-    print("\n### Lemmas and inner definitions that say it another way\n\nPublic names of proofs/ whose statement, or a parameter of the module around it, has another text. Those that README and docs/ name follow below where it is the statement.\n")
-    rows(("name", "what changed"), [(key, restated.get("::".join(key), "NOT SAID")) for key in a if key in b and sorted(a[key]) != sorted(b[key]) and key not in shown])
-
-
-def rows(heads, said):
-    """A row for each crate and text."""
-    print(f"| crate | {heads[0]} | {heads[1]} |\n|---|---|---|")
-    together = collections.defaultdict(list)
-    for (crate, name), text in sorted(said, key=lambda row: row[0][0]):
-        together[crate, text].append(f"`{name}`")
-    for (crate, text), names in together.items():
-        print(f"| {crate} | {', '.join(names)} | {text} |")
-
-
 def main(old_root, new_root):
     pairs = moved(new_root)
     old, new = contracts.read(old_root), contracts.read(new_root)
@@ -174,10 +119,7 @@ def main(old_root, new_root):
     items("Type invariants and ghost members", fields(old[2]), fields(new[2]), pairs, lambda key: True)
     items("Definitions", old[3], new[3], pairs, lambda key: True)
     words = named(old_root) | named(new_root)
-    a, b = theorems(old_root, old[0]), theorems(new_root, new[0])
-    shown = {key for key in a if key[1] in words and (key not in b or sorted(a[key]) != sorted(b[key]))}
-    inner(laws(old_root, old[0]), laws(new_root, new[0]), pairs, moved(new_root, "restated.tsv"), shown)
-    items("Theorems and laws that README or docs/ name", a, b, pairs, lambda key: key[1] in words)
+    items("Theorems and laws that README or docs/ name", theorems(old_root, old[0]), theorems(new_root, new[0]), pairs, lambda key: key[1] in words)
 
 
 if __name__ == "__main__":
