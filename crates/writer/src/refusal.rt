@@ -136,12 +136,12 @@ impl Record {
         ensures { answer_number result ≡ cond (sound self) (cond (ended self more) 7 0) 9 }
     {
         if !self.is_sound() {
-            return Err(Refusal::BadRecord);
+            Err(Refusal::BadRecord)
+        } else if self.is_ended(more) {
+            Err(Refusal::RunEnded)
+        } else {
+            Ok(())
         }
-        if self.is_ended(more) {
-            return Err(Refusal::RunEnded);
-        }
-        Ok(())
     }
 
     // The refusals of closing because of the state, in their order (document 01): 9, then 7, then 8.
