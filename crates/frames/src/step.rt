@@ -117,8 +117,12 @@ impl Pair {
         let plan = self.plan(&tables.words, byte);
         let pair = self.even(plan.copy, plan.first, at, stream1, stream2);
         Pair {
-            one: pair.one.word(&tables.words, &tables.levels, byte, plan.one, at, stream1),
-            two: pair.two.word(&tables.words, &tables.levels, byte, plan.two, at, stream2),
+            one: pair
+                .one
+                .word(&tables.words, &tables.levels, byte, plan.one, at, stream1),
+            two: pair
+                .two
+                .word(&tables.words, &tables.levels, byte, plan.two, at, stream2),
             shared: pair.shared,
         }
     }
