@@ -4,64 +4,42 @@ use mathlib.Core.Path.{◌≡◌, sym, ap, ◌∙◌}
 use native.Mathlib.Omega.{arith}
 use borrow.Author.Tests.{le-leb}
 use lib.ListN.{length, drop}
-use Prim.Native.Nat.{ℕ, ◌+◌, ◌-◌, ◌<◌}
+use Prim.Native.Nat.{ℕ, ◌+◌, ◌-◌}
 use mathlib.Core.Bool.{true, false}
 use mathlib.Core.List.{List}
-use Rattle.std.specs.Prelude.{Option, Some, None, IfSome}
-use Rattle.channel.specs.Bits.{bits_bytes, zero_runs_from, zero_runs_hold}
+use Rattle.std.specs.Prelude.{Some}
+use Rattle.channel.specs.Bits.{bits_bytes, zero_runs_from}
 use Rattle.layout.specs.Lengths.{stream_size}
-use Rattle.zeroruns.proofs.Scanning.{last_one, scan_zero, scan_one, scan_run, scan_end}
+use Rattle.zeroruns.proofs.Scanning.{scan_zero, scan_run, scan_end}
 use Rattle.zeroruns.proofs.zero_runs_hold.Goals as goal
-use Rattle.zeroruns.proofs.zero_runs_hold.Goals.{then-bit_at+in-Some+else-not-zero_run_fits, then-bit_at+in_default, else-bit_at+in-Some-zeros, else-bit_at+in_default-zeros}
+use Rattle.zeroruns.proofs.zero_runs_hold.Goals.{then-bit_at+else-not-zero_run_fits, else-bit_at}
 
--- what holds after j bits, of so many ZEROs since the last ONE
-Held : List ℕ → ℕ → Option ℕ → Type 0
-Held xs j zeros = IfSome zeros (λ n. n < j) × (zero_runs_hold xs ≡ zero_runs_from (last_one j zeros) j (drop j (bits_bytes xs)))
+-- the bits from bit j on, where the last ONE stands at bit i or, which is the same, at bit k
+moved : (xs : List ℕ) (i j k : ℕ) → i ≡ k → zero_runs_from (Some i) j (drop j (bits_bytes xs)) ≡ zero_runs_from (Some k) j (drop j (bits_bytes xs))
+moved xs i j k e = ap (λ (m : ℕ). zero_runs_from (Some m) j (drop j (bits_bytes xs))) e
 
--- a ONE that may stand or is the first, and a ZERO
-after_one : (xs : List ℕ) (j : ℕ) → zero_runs_hold xs ≡ zero_runs_from (Some j) (j + 1) (drop (j + 1) (bits_bytes xs)) → Held xs (j + 1) (Some 0)
-unfolding Held
-after_one xs j e =
-    let same : j ≡ j + 1 - 0 - 1 = omega arith in
-    (omega arith, e ∙ ap (λ (i : ℕ). zero_runs_from (Some i) (j + 1) (drop (j + 1) (bits_bytes xs))) same)
-
-after_zero :
-    (xs : List ℕ) (j n : ℕ) → n < j → zero_runs_hold xs ≡ zero_runs_from (Some (j - n - 1)) (j + 1) (drop (j + 1) (bits_bytes xs)) → Held xs (j + 1) (Some (n + 1))
-unfolding Held
-after_zero xs j n h e =
-    let same : j - n - 1 ≡ j + 1 - (n + 1) - 1 = omega arith in
-    (omega arith, e ∙ ap (λ (i : ℕ). zero_runs_from (Some i) (j + 1) (drop (j + 1) (bits_bytes xs))) same)
-
-held : (xs : List ℕ) (j : ℕ) {zeros told : Option ℕ} → zeros ≡ told → Held xs j zeros → Held xs j told
-held xs j e h = rw e at h
+pub loop-j-init : goal.loop-j-init
+loop-j-init c =
+    let first = c.in-Some.first in (omega arith, c.in-Some.ensures.rest ∙ moved c.args.stream.now first (first + 1) (first + 1 - 0 - 1) (omega arith))
 
 pub returns-then-not-zero_run_fits : goal.returns-then-not-zero_run_fits
-unfolding Held
 returns-then-not-zero_run_fits c =
-    let i = held c.args.stream.now c.loop-j.j c.in-Some.is c.loop-j.invariant in
-    let run = scan_run _ c.in-Some.n c.loop-j.j false (omega arith) i.0 (sym (c.if-bit_at.ensures)) (c.if-not-zero_run_fits.ensures) in
-    rw (le-leb (length c.args.stream.now) stream_size (omega arith)) (sym (i.1 ∙ run))
+    let run = scan_run _ c.loop-j.zeros c.loop-j.j false (omega arith) c.loop-j.invariant.0 (sym (c.if-bit_at.ensures)) (c.if-not-zero_run_fits.ensures) in
+    rw (le-leb (length c.args.stream.now) stream_size (omega arith)) (sym (c.loop-j.invariant.1 ∙ run))
 
--- a ONE that may stand, the first ONE, a ZERO after a ONE, and before any
+-- a ONE that may stand, and a ZERO
 pub loop-j-preserved : goal.loop-j-preserved
-unfolding Held
 loop-j-preserved c =
     let xs = c.args.stream.now in
     let j = c.loop-j.j in
+    let zeros = c.loop-j.zeros in
     elim c.if-bit_at.branch [
-      | then-bit_at+in-Some+else-not-zero_run_fits w ↦
-          let i = held xs j w.in-Some.is c.loop-j.invariant in
-          let run = scan_run xs w.in-Some.n j true (omega arith) i.0 (sym (w.if-bit_at.ensures)) (w.if-not-zero_run_fits.ensures) in
-          rw w.zeros-is (after_one xs j (i.1 ∙ run))
-      | then-bit_at+in_default w ↦
-          let i = held xs j w.in_default.is c.loop-j.invariant in
-          rw w.zeros-is (after_one xs j (i.1 ∙ scan_one xs None j (omega arith) (sym (w.if-bit_at.ensures))))
-      | else-bit_at+in-Some-zeros w ↦
-          let i = held xs j w.in-Some-zeros.is c.loop-j.invariant in
-          rw w.zeros-is (after_zero xs j w.in-Some-zeros.n i.0 (i.1 ∙ scan_zero xs _ j (omega arith) (sym (w.if-bit_at.ensures))))
-      | else-bit_at+in_default-zeros w ↦
-          let i = held xs j w.in_default-zeros.is c.loop-j.invariant in
-          rw (w.zeros-is, w.in_default-zeros.is) (tt, i.1 ∙ scan_zero xs None j (omega arith) (sym (w.if-bit_at.ensures)))
+      | then-bit_at+else-not-zero_run_fits w ↦
+          let run = scan_run xs zeros j true (omega arith) c.loop-j.invariant.0 (sym (w.if-bit_at.ensures)) (w.if-not-zero_run_fits.ensures) in
+          rw w.zeros-is (omega arith, c.loop-j.invariant.1 ∙ run ∙ moved xs j (j + 1) (j + 1 - 0 - 1) (omega arith))
+      | else-bit_at w ↦
+          let zero = scan_zero xs (Some (j - zeros - 1)) j (omega arith) (sym (w.if-bit_at.ensures)) in
+          rw w.zeros-is (omega arith, c.loop-j.invariant.1 ∙ zero ∙ moved xs (j - zeros - 1) (j + 1) (j + 1 - (zeros + 1) - 1) (omega (arith, c.loop-j.invariant.0)))
     ]
 
 pub returns : goal.returns
