@@ -45,14 +45,14 @@ pub fn write_frames(syncs: &SyncCodes, stream: &[u8], at: usize, out: &mut [u8])
 {
     let words = CodeWords::new();
     let index = wordindex::word_index(&words);
-    let words = WordReader {
+    let reader = WordReader {
         words: &words,
         index: &index,
     };
     let mut done = 0;
     let mut from = at;
     while let Some(frame) = framing::next_frame(syncs, stream, from) {
-        octets::put(out, done, &framing::read_frame(&words, stream, frame));
+        octets::put(out, done, &framing::read_frame(&reader, stream, frame));
         done += FRAME_BYTES;
         from = frame + FRAME_BITS;
     }

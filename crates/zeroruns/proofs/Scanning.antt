@@ -11,7 +11,7 @@ use borrow.Author.Tests.{ne_eqb, le-leb, lt-leb}
 use lib.Dec.{eqb}
 use lib.ListN.{length, get_or, drop, drop_of_length-le}
 use lib.Seq.{drop-cons}
-use Rattle.std.specs.Prelude.{Option, Some, None}
+use Rattle.std.specs.Prelude.{Option, Some}
 use Rattle.channel.specs.Bits.{bits_bytes, block_zero_run_fits, one_fits, zero_runs_from}
 use Rattle.channel.proofs.Overlaps.{bits-long}
 use Rattle.octets.specs.Halves.{bit_at}
@@ -70,12 +70,7 @@ module _ (xs : List ℕ) (last : Option ℕ) (j : ℕ) where
   unfolding zero_runs_from
   scan_end h = rw (drop_of_length-le (bits_bytes xs) {i = j} (omega (arith, bits-long xs))) refl
 
--- where the last ONE before bit j stands, after which there were so many ZEROs
-abbrev pub last_one : ℕ → Option ℕ → Option ℕ
-last_one j None = None
-last_one j (Some n) = Some (j - n - 1)
-
--- the zero run that a ONE ends, as the code counts it
+-- the zero run of n ZEROs that a ONE at bit j ends: the ONE before it stands at bit j - n - 1
 pub scan_run :
     (xs : List ℕ) (n j : ℕ) (fits : Bool) → j < 8 * length xs → n < j → bit_at xs j ≡ 1 → fits ≡ block_zero_run_fits (j - n - 1) n
     → zero_runs_from (Some (j - n - 1)) j (drop j (bits_bytes xs)) ≡ (fits && zero_runs_from (Some j) (j + 1) (drop (j + 1) (bits_bytes xs)))
