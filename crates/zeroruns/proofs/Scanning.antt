@@ -1,5 +1,5 @@
 -- The test of a zero run by its cases (fits_low, -mid, -other, -thirteen), the bits of a stream one by one (bits_at), and the scan over them for zero runs: over a
--- ZERO (scan_zero), over a ONE (scan_one, scan_run), at the end (scan_end).
+-- ZERO (scan_zero), over a ONE (scan_one, scan_run, scan_counted), at the end (scan_end).
 -- Assumes nothing.
 use mathlib.Core.Path.{◌≡◌, refl, sym, ap, ◌∙◌}
 use mathlib.Core.Bool.{Bool, true, false, ◌&&◌}
@@ -70,11 +70,19 @@ module _ (xs : List ℕ) (last : Option ℕ) (j : ℕ) where
   unfolding zero_runs_from
   scan_end h = rw (drop_of_length-le (bits_bytes xs) {i = j} (omega (arith, bits-long xs))) refl
 
--- the zero run of n ZEROs that a ONE at bit j ends: the ONE before it stands at bit j - n - 1
+-- the zero run that a ONE at bit j ends, where the ONE before it stands at bit one
 pub scan_run :
+    (xs : List ℕ) (last : Option ℕ) (one j : ℕ) (fits : Bool) → j < 8 * length xs → bit_at xs j ≡ 1 → last ≡ Some one → fits ≡ block_zero_run_fits one (j - one - 1)
+    → zero_runs_from last j (drop j (bits_bytes xs)) ≡ (fits && zero_runs_from (Some j) (j + 1) (drop (j + 1) (bits_bytes xs)))
+scan_run xs last one j fits h e o f =
+    let same : j - one - 1 ≡ j - suc one = omega arith in
+    scan_one xs last j h e ∙ ap (λ (b : Bool). b && zero_runs_from (Some j) (j + 1) (drop (j + 1) (bits_bytes xs)))
+    (ap (λ (l : Option ℕ). one_fits l j) o ∙ sym (f ∙ ap (block_zero_run_fits one) same))
+
+-- the same where its n ZEROs were counted: the ONE before it stands at bit j - n - 1
+pub scan_counted :
     (xs : List ℕ) (n j : ℕ) (fits : Bool) → j < 8 * length xs → n < j → bit_at xs j ≡ 1 → fits ≡ block_zero_run_fits (j - n - 1) n
     → zero_runs_from (Some (j - n - 1)) j (drop j (bits_bytes xs)) ≡ (fits && zero_runs_from (Some j) (j + 1) (drop (j + 1) (bits_bytes xs)))
-scan_run xs n j fits h m e f =
-    let same : n ≡ j - suc (j - n - 1) = omega arith in
-    scan_one xs (Some (j - n - 1)) j h e ∙ ap (λ (b : Bool). b && zero_runs_from (Some j) (j + 1) (drop (j + 1) (bits_bytes xs)))
-    (sym (f ∙ ap (block_zero_run_fits (j - n - 1)) same))
+scan_counted xs n j fits h m e f =
+    let same : n ≡ j - (j - n - 1) - 1 = omega arith in
+    scan_run xs (Some (j - n - 1)) (j - n - 1) j fits h e refl (f ∙ ap (block_zero_run_fits (j - n - 1)) same)

@@ -10,7 +10,7 @@ use mathlib.Core.List.{List}
 use Rattle.std.specs.Prelude.{Some}
 use Rattle.channel.specs.Bits.{bits_bytes, zero_runs_from}
 use Rattle.layout.specs.Lengths.{stream_size}
-use Rattle.zeroruns.proofs.Scanning.{scan_zero, scan_run, scan_end}
+use Rattle.zeroruns.proofs.Scanning.{scan_zero, scan_counted, scan_end}
 use Rattle.zeroruns.proofs.zero_runs_hold.Goals as goal
 use Rattle.zeroruns.proofs.zero_runs_hold.Goals.{then-bit_at+else-not-zero_run_fits, else-bit_at}
 
@@ -24,7 +24,7 @@ loop-j-init c =
 
 pub returns-then-not-zero_run_fits : goal.returns-then-not-zero_run_fits
 returns-then-not-zero_run_fits c =
-    let run = scan_run _ c.loop-j.zeros c.loop-j.j false (omega arith) c.loop-j.invariant.0 (sym (c.if-bit_at.ensures)) (c.if-not-zero_run_fits.ensures) in
+    let run = scan_counted _ c.loop-j.zeros c.loop-j.j false (omega arith) c.loop-j.invariant.0 (sym (c.if-bit_at.ensures)) (c.if-not-zero_run_fits.ensures) in
     rw (le-leb (length c.args.stream.now) stream_size (omega arith)) (sym (c.loop-j.invariant.1 ∙ run))
 
 -- a ONE that may stand, and a ZERO
@@ -35,7 +35,7 @@ loop-j-preserved c =
     let zeros = c.loop-j.zeros in
     elim c.if-bit_at.branch [
       | then-bit_at+else-not-zero_run_fits w ↦
-          let run = scan_run xs zeros j true (omega arith) c.loop-j.invariant.0 (sym (w.if-bit_at.ensures)) (w.if-not-zero_run_fits.ensures) in
+          let run = scan_counted xs zeros j true (omega arith) c.loop-j.invariant.0 (sym (w.if-bit_at.ensures)) (w.if-not-zero_run_fits.ensures) in
           rw w.zeros-is (omega arith, c.loop-j.invariant.1 ∙ run ∙ moved xs j (j + 1) (j + 1 - 0 - 1) (omega arith))
       | else-bit_at w ↦
           let zero = scan_zero xs (Some (j - zeros - 1)) j (omega arith) (sym (w.if-bit_at.ensures)) in
