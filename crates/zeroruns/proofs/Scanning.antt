@@ -70,7 +70,7 @@ module _ (xs : List ℕ) (last : Option ℕ) (j : ℕ) where
   unfolding zero_runs_from
   scan_end h = rw (drop_of_length-le (bits_bytes xs) {i = j} (omega (arith, bits-long xs))) refl
 
--- the zero run that a ONE at bit j ends, where the ONE before it stands at bit one
+-- the zero run that a ONE at bit j ends, where the last ONE stands at bit `one`
 pub scan_run :
     (xs : List ℕ) (last : Option ℕ) (one j : ℕ) (fits : Bool) → j < 8 * length xs → bit_at xs j ≡ 1 → last ≡ Some one → fits ≡ block_zero_run_fits one (j - one - 1)
     → zero_runs_from last j (drop j (bits_bytes xs)) ≡ (fits && zero_runs_from (Some j) (j + 1) (drop (j + 1) (bits_bytes xs)))
